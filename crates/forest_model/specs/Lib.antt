@@ -1,1 +1,9 @@
 pub mod Key
+pub mod Limits
+pub mod Documents
+pub mod Stores
+pub mod State
+pub mod Blocks
+pub mod Step
+pub mod Session
+pub mod Run

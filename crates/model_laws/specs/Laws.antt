@@ -1,0 +1,127 @@
+-- What holds of every step of the sequential store, in words of its own.
+use Rattle.std.specs.Prelude.{◌≡◌, ◌≢◌, ℕ, ◌+◌, ◌<◌, ◌≤◌, ◌⊎◌, ◌↔◌, Bool, true, false, List, [], ◌∷◌, ◌++◌, IsTrue}
+use Rattle.std.specs.FinMap as finite
+use Rattle.forest_model.specs.Documents.{Map, key_at, doc_of, is_same_map}
+use Rattle.forest_model.specs.Stores.{are_same_stores}
+use Rattle.forest_model.specs.State.{IsState, retained, Durable, durable_of, nothing_new}
+use Rattle.forest_model.specs.Blocks.{File}
+use Rattle.forest_model.specs.Step.{step_of, found_of}
+use Rattle.forest_model.specs.declared.call.StoreRef.{StoreRef}
+use Rattle.forest_model.specs.declared.call.Call.{Call}
+use Rattle.forest_model.specs.declared.call.Call.TheVariants.{Set, Delete, Batch, Get, BySeq, Info, Markers, StoreOpen, StoreRemove, Commit, Rollback, SnapLatest, SnapAt, Begin, Delta, Switch, Cancel}
+use Rattle.forest_model.specs.declared.call.Reply.{Reply}
+use Rattle.forest_model.specs.declared.call.Reply.TheVariants.{Seq, Document, Store, Committed, Rolled, Begun, Switched, Refused}
+use Rattle.forest_model.specs.declared.refusal.Refusal.{Refusal}
+use Rattle.forest_model.specs.declared.state.Commit.{Commit as CommitRow}
+use Rattle.forest_model.specs.declared.state.State.{State}
+
+-- the reply to a call, and the state after it
+abbrev pub reply_to : State → File → Call → Reply
+reply_to s file call = (step_of s file call).0
+
+abbrev pub state_after : State → File → Call → State
+state_after s file call = (step_of s file call).1
+
+-- a refused call leaves the state
+abbrev pub RefusedLeaves : Type 0
+RefusedLeaves = (s : State) (file : File) (call : Call) (why : Refusal) → reply_to s file call ≡ Refused why → state_after s file call ≡ s
+
+-- so does a call that reads
+abbrev pub is_read : Call → Bool
+is_read (Get at key) = true
+is_read (BySeq at seq) = true
+is_read (Info at) = true
+is_read Markers = true
+is_read SnapLatest = true
+is_read (SnapAt at seq) = true
+is_read (Delta ticket left) = true
+is_read call = false
+
+abbrev pub ReadsLeave : Type 0
+ReadsLeave = (s : State) (file : File) (call : Call) → IsTrue (is_read call) → state_after s file call ≡ s
+
+-- a step raises the place by one, or changes nothing at all
+abbrev pub PlaceTells : Type 0
+PlaceTells = (s : State) (file : File) (call : Call) → ((state_after s file call).place ≡ s.place + 1) ⊎ (state_after s file call ≡ s)
+
+-- a step keeps the rules of a state
+abbrev pub RulesStay : Type 0
+RulesStay = (s : State) (file : File) (call : Call) → IsState s → IsState (state_after s file call)
+
+-- a document just set is got by every reference to its store
+abbrev pub SetIsGot : Type 0
+SetIsGot = (s : State) (file later : File) (at by : StoreRef) (key meta body : List ℕ) (seq : ℕ)
+    → reply_to s file (Set at key meta body) ≡ Seq seq → by.store ≡ at.store
+    → reply_to (state_after s file (Set at key meta body)) later (Get by key) ≡ Document (found_of key (doc_of seq meta body))
+
+-- and no other key's reply moves
+abbrev pub OthersStay : Type 0
+OthersStay = (s : State) (file later : File) (at by : StoreRef) (key meta body other : List ℕ)
+    → key_at by.store other ≢ key_at at.store key
+    → reply_to (state_after s file (Set at key meta body)) later (Get by other) ≡ reply_to s later (Get by other)
+
+-- nothing is new exactly where stores and documents equal those of the last commit
+abbrev pub NothingNewMeans : Type 0
+NothingNewMeans = (s : State) → IsTrue (nothing_new s) ↔ ((s.stores ≡ s.last.stores) × (s.documents ≡ s.last.documents))
+
+-- A rollback's state has the stores and documents of the named commit, and the commits up to it.
+pub record IsRolledBack (s after : State) (number : ℕ) : Type 0 where
+  pub target : CommitRow
+  pub newer : List CommitRow
+  pub older : List CommitRow
+  pub named : target.number ≡ number
+  pub among : retained s ≡ newer ++ target ∷ older
+  pub commits : retained after ≡ target ∷ older
+  pub stores : after.stores ≡ target.stores
+  pub documents : after.documents ≡ target.documents
+
+abbrev pub RollbackReturns : Type 0
+RollbackReturns = (s : State) (file : File) (at : StoreRef) (number : ℕ)
+    → reply_to s file (Rollback at number) ≡ Rolled number → IsRolledBack s (state_after s file (Rollback at number)) number
+
+-- a run of calls, each over blocks of its own
+abbrev pub after_all : State → List (File × Call) → State
+after_all s [] = s
+after_all s (c ∷ calls) = after_all (state_after s c.0 c.1) calls
+
+-- the numbers to be drawn next don't fall, over any calls
+abbrev pub DrawnStay : Type 0
+DrawnStay = (s : State) (calls : List (File × Call))
+    → (s.next_commit ≤ (after_all s calls).next_commit) × (s.next_store ≤ (after_all s calls).next_store) × (s.next_ticket ≤ (after_all s calls).next_ticket)
+
+-- a number that is drawn is the one to be drawn next, and lies below those to be drawn afterwards
+abbrev pub CommitDraws : Type 0
+CommitDraws = (s : State) (file : File) (at : StoreRef) (number : ℕ) → reply_to s file (Commit at) ≡ Committed number
+    → (IsTrue (nothing_new s) × (number ≡ s.last.number)) ⊎ ((number ≡ s.next_commit) × (number < (state_after s file (Commit at)).next_commit))
+
+abbrev pub BeginDraws : Type 0
+BeginDraws = (s : State) (file : File) (at : StoreRef) (ticket base : ℕ) → reply_to s file (Begin at) ≡ Begun ticket base
+    → (ticket ≡ s.next_ticket) × (ticket < (state_after s file (Begin at)).next_ticket) × (base ≡ s.last.number)
+
+abbrev pub StoreDraws : Type 0
+StoreDraws = (s : State) (file : File) (name : List ℕ) (read_only : Bool) (at : StoreRef) → reply_to s file (StoreOpen name read_only) ≡ Store at
+    → (state_after s file (StoreOpen name read_only) ≡ s) ⊎ ((at.store ≡ s.next_store) × (at.store < (state_after s file (StoreOpen name read_only)).next_store))
+
+-- A switch drops the commits before the last and the running compaction; the stores, the documents and what is uncommitted of them stay.
+pub record IsSwitched (s after : State) (number : ℕ) : Type 0 where
+  pub answers : number ≡ s.last.number
+  pub commits : retained after ≡ s.last ∷ []
+  pub stores : after.stores ≡ s.stores
+  pub documents : after.documents ≡ s.documents
+  pub numbers : (after.next_commit ≡ s.next_commit) × (after.next_store ≡ s.next_store) × (after.next_ticket ≡ s.next_ticket)
+  pub file : (after.revision ≡ s.revision + 1) × (after.generation ≡ s.generation + 1)
+  pub place : after.place ≡ s.place + 1
+
+abbrev pub SwitchKeeps : Type 0
+SwitchKeeps = (s : State) (file : File) (at : StoreRef) (ticket left number : ℕ)
+    → reply_to s file (Switch at ticket left) ≡ Switched number → IsSwitched s (state_after s file (Switch at ticket left)) number
+
+-- only a commit, a rollback and a switch change what is durable
+abbrev pub is_durable : Call → Bool
+is_durable (Commit at) = true
+is_durable (Rollback at number) = true
+is_durable (Switch at ticket left) = true
+is_durable call = false
+
+abbrev pub DurableStays : Type 0
+DurableStays = (s : State) (file : File) (call : Call) → is_durable call ≡ false → durable_of (state_after s file call) ≡ durable_of s
