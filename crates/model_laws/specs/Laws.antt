@@ -1,14 +1,12 @@
 -- What holds of every step of the sequential store, in words of its own.
 use Rattle.std.specs.Prelude.{◌≡◌, ◌≢◌, ℕ, ◌+◌, ◌<◌, ◌≤◌, ◌⊎◌, ◌↔◌, Bool, true, false, List, [], ◌∷◌, ◌++◌, IsTrue}
-use Rattle.std.specs.FinMap as finite
-use Rattle.forest_model.specs.Documents.{Map, key_at, doc_of, is_same_map}
-use Rattle.forest_model.specs.Stores.{are_same_stores}
-use Rattle.forest_model.specs.State.{IsState, retained, Durable, durable_of, nothing_new}
+use Rattle.forest_model.specs.Documents.{key_at, doc_of}
+use Rattle.forest_model.specs.State.{IsState, retained, durable_of, nothing_new}
 use Rattle.forest_model.specs.Blocks.{File}
 use Rattle.forest_model.specs.Step.{step_of, found_of}
 use Rattle.forest_model.specs.declared.call.StoreRef.{StoreRef}
 use Rattle.forest_model.specs.declared.call.Call.{Call}
-use Rattle.forest_model.specs.declared.call.Call.TheVariants.{Set, Delete, Batch, Get, BySeq, Info, Markers, StoreOpen, StoreRemove, Commit, Rollback, SnapLatest, SnapAt, Begin, Delta, Switch, Cancel}
+use Rattle.forest_model.specs.declared.call.Call.TheVariants.{Set, Get, BySeq, Info, Markers, StoreOpen, Commit, Rollback, SnapLatest, SnapAt, Begin, Delta, Switch}
 use Rattle.forest_model.specs.declared.call.Reply.{Reply}
 use Rattle.forest_model.specs.declared.call.Reply.TheVariants.{Seq, Document, Store, Committed, Rolled, Begun, Switched, Refused}
 use Rattle.forest_model.specs.declared.refusal.Refusal.{Refusal}

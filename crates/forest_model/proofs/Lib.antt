@@ -1,0 +1,4 @@
+pub mod FiniteMaps
+pub mod KeyOrder
+pub mod Commits
+pub mod Mapped

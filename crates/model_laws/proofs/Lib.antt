@@ -1,0 +1,9 @@
+pub mod Changes
+pub mod Commits
+pub mod KeptDocuments
+pub mod KeptStores
+pub mod Keys
+pub mod Lists
+pub mod Same
+pub mod Steps
+pub mod Stores

@@ -1,0 +1,21 @@
+use Rattle.std.proofs.Common.{◌++◌, arith, length-append, ◌∙◌}
+use Rattle.play_run.proofs.player.Player.run.Goals as goal
+
+pub script-preserved : goal.script-preserved
+script-preserved g c = record {
+  counted = c.in-Ok.ensures.counted;
+  small = omega (arith, c.in-Ok.ensures.fed.0, c.in-Ok.ensures.fed.1, c.in-Ok.ensures.fed.2, c.script.invariant.small);
+  some = omega (arith, c.in-Ok.ensures.fed.1);
+  within = omega (arith, c.script.invariant.within);
+  untroubled = c.in-Ok.ensures.untroubled ∙ c.script.invariant.untroubled;
+  counts = omega (arith, c.script.invariant.counts, c.in-Ok.ensures.counts);
+  taken = λ told tells base has.
+      let before = c.script.invariant.taken told tells base has in
+      let fed = c.in-Ok.ensures.taken told tells base before.0 _ before.1 before.3 in
+      (before.0 ++ fed.more, fed.source, omega (arith, length-append before.0 fed.more, fed.long, before.2, c.in-Ok.ensures.fed.1), fed.has);
+}
+
+pub returns-in-Err-clause-ends : goal.returns-in-Err-clause-ends
+returns-in-Err-clause-ends g c = λ told tells base has.
+    let before = c.script.invariant.taken told tells base has in
+    c.in-Err.ensures.ends told tells base before.0 _ before.1 before.2 before.3

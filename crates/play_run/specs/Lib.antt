@@ -1,0 +1,5 @@
+pub mod Built
+pub mod Plain
+pub mod Script
+pub mod Progress
+pub mod Play

@@ -1,0 +1,4 @@
+pub mod Splitting
+pub mod Spelled
+pub mod Fields
+pub mod Lines

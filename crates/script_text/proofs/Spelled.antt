@@ -1,0 +1,29 @@
+-- What a text word is, by cases.
+use Rattle.std.proofs.Common.{◌≡◌, ℕ, true, false, cond, eqb, List, [], ◌∷◌, ◌++◌, length, refl, sym, ap, ◌∙◌, codes}
+use Rattle.std.specs.List.{flat_map}
+use Rattle.std.proofs.lemmas.Bool.{eqb-true, ne_eqb}
+use Rattle.std.proofs.lemmas.List.{nil_from_length, append-nil}
+use Rattle.script_text.specs.Words.{byte_spelling, word_of}
+
+empty_word : codes "-" ≡ word_of []
+unfolding word_of
+empty_word = refl
+
+pub word_of-empty : (bytes : List ℕ) → eqb (length bytes) 0 ≡ true → codes "-" ≡ word_of bytes
+word_of-empty bytes e = empty_word ∙ ap word_of (sym (nil_from_length bytes (eqb-true _ _ e)))
+
+dash_word : codes "%2D" ≡ word_of (codes "-")
+unfolding word_of
+dash_word = refl
+
+pub word_of-dash : (bytes : List ℕ) → bytes ≡ codes "-" → codes "%2D" ≡ word_of bytes
+word_of-dash bytes e = dash_word ∙ ap word_of (sym e)
+
+one_byte : (b : ℕ) → (b ≡ 45 → ⊥) → cond (eqb b 45) (codes "%2D") (byte_spelling b) ≡ byte_spelling b ++ []
+one_byte b other = rw (ne_eqb b 45 other) (sym (append-nil (byte_spelling b)))
+
+pub word_of-other : (bytes : List ℕ) → eqb (length bytes) 0 ≡ false → (bytes ≡ codes "-" → ⊥) → word_of bytes ≡ flat_map byte_spelling bytes
+unfolding word_of
+word_of-other [] e other = absurd cc
+word_of-other (b ∷ []) e other = one_byte b (λ h. other (ap (λ (x : ℕ). x ∷ []) h))
+word_of-other (b ∷ c ∷ bytes) e other = refl

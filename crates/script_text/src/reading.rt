@@ -1,0 +1,29 @@
+ghost use Rattle.std.specs.Prelude.{◌≡◌, IfOk, IfSome, IfNone, OnErr};
+ghost use Rattle.forest_model.specs.declared.line.Line.{Line};
+ghost use Rattle.script_text.specs.Grammar.{IsLine};
+ghost use Rattle.script_text.specs.Reading.{GivesFirst, line_at, words_in};
+
+use crate::reader::Reader;
+use crate::unread::Unread;
+use forest_model::{Line, Refusal};
+use std::alloc::Global;
+
+fn read(alloc: Global, text: &[u8]) -> Result<Line, Unread>
+    ensures { GivesFirst result (line_at (words_in text.now)) }
+{
+    Reader::new(text).line(alloc)
+}
+
+/// The line that a text without its newline is, in a script for the server or for play, and `None`
+/// exactly where it is none. The only refusal is `NoMemory`.
+pub fn line_of(alloc: Global, text: &[u8], server: bool) -> Result<Option<Line>, Refusal>
+    ensures found { IfOk result (λ found. IfSome found (λ line. IsLine server line text.now)) }
+    ensures none { IfOk result (λ found. IfNone found ((line : Line) → ¬ (IsLine server line text.now))) }
+    ensures memory { OnErr result (result ≡ Err Refusal.NoMemory) }
+{
+    match read(alloc, text) {
+        Ok(line) => Ok(Some(line)),
+        Err(Unread::NotALine) => Ok(None),
+        Err(Unread::NoMemory) => Err(Refusal::NoMemory),
+    }
+}
