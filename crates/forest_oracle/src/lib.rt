@@ -6,5 +6,7 @@
 #![tactic(auto)]
 
 mod oracle;
+#[cfg(test)]
+mod worked_rows;
 
 pub use oracle::Oracle;

@@ -13,8 +13,6 @@ mod limits;
 mod reads;
 mod stores;
 mod tables;
-#[cfg(test)]
-mod tests;
 mod writes;
 
 /// The sequential store over ordered maps: slow and plain.
