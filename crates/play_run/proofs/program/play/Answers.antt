@@ -1,8 +1,8 @@
 use Rattle.std.proofs.Common.{ap, ◌∙◌, ◌++◌, ◌+◌, List, ℕ}
 use Rattle.play_run.specs.Script.{bad_line}
 use Rattle.play_run.specs.Play.{source_fault}
-use Rattle.play_run.proofs.Played.{played_all, played_fault, played_bad, played_some}
-use Rattle.play_run.proofs.play.play.Goals as goal
+use Rattle.play_run.proofs.Ends.{played_all, played_fault, played_bad, played_some}
+use Rattle.play_run.proofs.program.play.Goals as goal
 
 pub returns-clause-all : goal.returns-clause-all
 returns-clause-all g c = λ status told tells.
