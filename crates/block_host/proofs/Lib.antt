@@ -1,2 +1,5 @@
 pub mod Moments
+mod Padding
 mod Room
+mod Front
+pub mod Back

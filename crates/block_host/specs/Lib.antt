@@ -1,3 +1,6 @@
+pub mod Calls
 pub mod Disk
 pub mod Moments
+pub mod Sealed
+pub mod Settled
 pub mod Supply

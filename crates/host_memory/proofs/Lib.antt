@@ -1,1 +1,4 @@
-mod Spoken
+mod Picks
+mod Least
+mod Steps
+mod Told

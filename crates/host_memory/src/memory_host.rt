@@ -1,16 +1,24 @@
-ghost use Rattle.std.specs.Prelude.{◌≡◌, ◌≤◌, ◌++◌, true, ℕ, [], IfOk, OnOk, OnErr};
+ghost use Rattle.std.specs.Prelude.{◌≡◌, ◌≤◌, true, ℕ, [], unwrap_or, IfOk};
 
-use crate::{MemoryFresh, MemoryView};
-use block_host::{Failed, Host};
+use crate::blocks::Blocks;
+use crate::faults::Faults;
+use crate::state::State;
+use crate::{MemoryFresh, MemoryView, Pick};
+use block_host::{Block, Failed, Fresh, Host, Settled};
 use ghost_past::Past;
 use std::alloc::{AllocError, Global};
+use std::sync::Arc;
 
 /// A host whose files lie in memory, and that tells all its content.
 #[derive(Drop)]
 pub struct MemoryHost {
-    said: Vec<u8>,
-    faults: u64,
-    past: Past<Vec<u8>>,
+    alloc: Global,
+    state: State,
+    past: Past<State>,
+    own: Faults,
+    greatest: u64,
+    views: Arc<Vec<u64>>,
+    fresh: Arc<Vec<u64>>,
 }
 
 impl MemoryHost {
@@ -26,9 +34,13 @@ impl MemoryHost {
         ensures faults { IfOk result (λ host. memory_faults host ≡ 0) }
     {
         Ok(MemoryHost {
-            said: Vec::new(alloc),
-            faults: 0,
+            alloc,
+            state: State::new(alloc),
             past: Past::new(),
+            own: Faults::new(Arc::new(alloc, Vec::new(alloc))?),
+            greatest: 0,
+            views: Arc::new(alloc, Vec::new(alloc))?,
+            fresh: Arc::new(alloc, Vec::new(alloc))?,
         })
     }
 
@@ -36,14 +48,33 @@ impl MemoryHost {
     pub fn said(&self) -> &[u8]
         ensures { result.now ≡ (memory_disk self.now).said }
     {
-        &self.said
+        self.state.said()
     }
 
     /// How often the host has failed. It stays at its last value.
     pub fn faults(&self) -> u64
         ensures { result ≡ memory_faults self.now }
     {
-        self.faults
+        self.own.count()
+    }
+
+    // A view on these blocks.
+    fn view_of(&self, file: u64) -> Result<MemoryView, AllocError>
+        ensures content { IfOk result (λ view. view.blocks ≡ (memory_disk self.now).files file) }
+        ensures made { IfOk result (λ view. view.own.count ≡ 0) }
+    {
+        let blocks = self.state.share(self.alloc, file)?;
+        Ok(MemoryView::new(blocks, Faults::new(Arc::try_clone(&self.views)?)))
+    }
+
+    // An empty fresh file.
+    fn fresh_of(&self, file: u64) -> Result<MemoryFresh, AllocError>
+        ensures content { IfOk result (λ fresh. fresh.blocks.items ≡ []) }
+        ensures number { IfOk result (λ fresh. fresh.file ≡ file) }
+        ensures made { IfOk result (λ fresh. fresh.own.count ≡ 0) }
+    {
+        let own = Faults::new(Arc::try_clone(&self.fresh)?);
+        Ok(MemoryFresh::new(file, Vec::new(self.alloc), own))
     }
 }
 
@@ -52,6 +83,7 @@ impl Host for MemoryHost {
 
     type Fresh = MemoryFresh;
 
+    ghost use Rattle.std.proofs.Common.{refl};
     ghost use Rattle.host_memory.specs.Memory.{memory_disk, memory_faults, memory_lawful};
 
     ghost tells = { true };
@@ -60,37 +92,146 @@ impl Host for MemoryHost {
 
     ghost faults = { memory_faults };
 
-    ghost greatest = { λ _. 0 };
+    ghost greatest = { λ host. host.greatest };
 
     ghost lawful = { λ _ host. memory_lawful host };
 
+    ghost views_tell = { λ _. refl };
+
+    ghost fresh_files_tell = { λ _. refl };
+
+    fn size(&mut self, file: u64) -> Result<u64, Failed> {
+        self.own.admit()?;
+        Ok(self.state.size(file))
+    }
+
+    fn read(&mut self, file: u64, at: u64, out: &mut Block) -> Result<(), Failed> {
+        self.own.admit()?;
+        *out = self.state.at(file, at);
+        Ok(())
+    }
+
+    fn append(&mut self, file: u64, blocks: &[Block]) -> Result<(), Failed> {
+        self.own.admit()?;
+        let past = self.past.and(&self.state);
+        if self.state.append(self.alloc, file, blocks).is_err() {
+            return Err(self.own.run_short());
+        }
+        self.past = past;
+        Ok(())
+    }
+
+    fn put(&mut self, slot: u64, block: &Block) -> Result<(), Failed> {
+        self.own.admit()?;
+        let past = self.past.and(&self.state);
+        if self.state.put(self.alloc, slot, block).is_err() {
+            return Err(self.own.run_short());
+        }
+        self.past = past;
+        Ok(())
+    }
+
+    fn cut(&mut self, file: u64, blocks: u64) -> Result<(), Failed> {
+        self.own.admit()?;
+        let past = self.past.and(&self.state);
+        if self.state.cut(self.alloc, file, blocks).is_err() {
+            return Err(self.own.run_short());
+        }
+        self.past = past;
+        Ok(())
+    }
+
+    fn sync(&mut self, file: u64) -> Result<(), Failed> {
+        self.own.admit()?;
+        self.past = self.past.and(&self.state);
+        self.state.sync(file);
+        Ok(())
+    }
+
+    fn next_file(&mut self, after: u64) -> Result<Option<u64>, Failed> {
+        self.own.admit()?;
+        Ok(self.state.next(after))
+    }
+
+    fn remove(&mut self, file: u64) -> bool {
+        if self.own.admit_quietly() {
+            self.past = self.past.and(&self.state);
+            self.state.remove(file);
+            true
+        } else {
+            false
+        }
+    }
+
+    fn view(&mut self, file: u64) -> Result<MemoryView, Failed> {
+        self.own.admit()?;
+        match self.view_of(file) {
+            Ok(view) => Ok(view),
+            Err(_) => Err(self.own.run_short()),
+        }
+    }
+
+    fn renew(&mut self, file: u64, view: &mut MemoryView) -> Result<(), Failed> {
+        self.own.admit()?;
+        match self.state.share(self.alloc, file) {
+            Ok(blocks) => {
+                view.renew(blocks);
+                Ok(())
+            }
+            Err(_) => Err(self.own.run_short()),
+        }
+    }
+
+    fn absorb_view(&mut self, view: MemoryView) {
+        self.own.absorb(view.own());
+    }
+
+    fn absorb_fresh(&mut self, fresh: MemoryFresh) {
+        self.own.absorb(fresh.own());
+        self.greatest = self.greatest.max(fresh.size());
+    }
+
+    fn fresh(&mut self, file: u64) -> Result<MemoryFresh, Failed> {
+        self.own.admit()?;
+        match self.fresh_of(file) {
+            Ok(fresh) => Ok(fresh),
+            Err(_) => Err(self.own.run_short()),
+        }
+    }
+
+    fn adopt(&mut self, settled: Settled) -> Result<(), Failed> {
+        self.own.admit()?;
+        let past = self.past.and(&self.state);
+        let file = settled.file();
+        let blocks = blocks_of(self.alloc, settled);
+        if self.state.adopt(self.alloc, file, &blocks).is_err() {
+            return Err(self.own.run_short());
+        }
+        self.past = past;
+        Ok(())
+    }
+
     fn say(&mut self, bytes: &[u8]) -> Result<(), Failed> {
-        let past = self.past.and(&self.said);
-        if self.said.extend_from_slice(bytes).is_err() {
-            self.faults = self.faults.saturating_add(1);
-            return Err(Failed);
+        self.own.admit()?;
+        let past = self.past.and(&self.state);
+        if self.state.say(bytes).is_err() {
+            return Err(self.own.run_short());
         }
         self.past = past;
         Ok(())
     }
 
     fn faults(&self) -> u64 {
-        self.faults
+        self.own.count()
     }
 }
 
-#[cfg(test)]
-mod tests {
-    use super::*;
-    use std::test::Fail;
-
-    #[test]
-    fn says_all_it_is_given(rt: HostRuntime) -> Result<(), Fail> {
-        let mut host = MemoryHost::empty(rt.alloc())?;
-        assert_eq!(rt; host.say(b"ab"), Ok(()));
-        assert_eq!(rt; host.say(b"c"), Ok(()));
-        assert_eq!(rt; host.said(), b"abc".as_slice());
-        assert_eq!(rt; Host::faults(&host), 0);
-        Ok(())
+// The blocks of a settled file; none where they are not told.
+fn blocks_of(alloc: Global, settled: Settled) -> Vec<Block>
+    ensures { result.items ≡ unwrap_or settled.blocks [] }
+{
+    match settled.blocks() {
+        Some(blocks) => blocks,
+        None => Vec::new(alloc),
     }
 }

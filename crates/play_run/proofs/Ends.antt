@@ -26,16 +26,23 @@ module _ (base heard now script left : List ℕ) (count : ℕ) (why : Ended) (en
   pub played_bad : why ≡ BadLine → now ≡ heard ++ bad_line (count + 1) → Takes script left (λ taken. SaysSince base now (MeetsBad taken left))
   played_bad is same =
       let e : EndsAtBad base heard script left count = subst (λ (x : Ended). EndsBy x base heard script left count) is ends in
-      let text = bad_line (count + 1) in
-      (e.taken, e.source, (e.run.said ++ text, same ∙ ap (λ xs. xs ++ text) e.run.is ∙ append_assoc base e.run.said text, record {
-        texts = e.texts;
-        rest = e.rest;
-        cut = e.cut;
-        bad = e.bad;
-        before = e.run.said;
-        said_before = e.run.said_all;
-        is = ap (λ n. e.run.said ++ bad_line (n + 1)) (sym e.counted);
-      }))
+      let text = bad_line (count + 1) in (
+        e.taken,
+        e.source,
+        (
+          e.run.said ++ text,
+          same ∙ ap (λ xs. xs ++ text) e.run.is ∙ append_assoc base e.run.said text,
+          record {
+            texts = e.texts;
+            rest = e.rest;
+            cut = e.cut;
+            bad = e.bad;
+            before = e.run.said;
+            said_before = e.run.said_all;
+            is = ap (λ n. e.run.said ++ bad_line (n + 1)) (sym e.counted);
+          },
+        ),
+      )
 
   pub played_some : (why ≡ NoMemory) ⊎ (why ≡ BadLine) → now ≡ heard → Takes script left (λ taken. SaysSince base now (RunsPrefix taken))
   played_some (inl is) same =

@@ -70,8 +70,10 @@ lanes_told p h t printed =
 told_set : (p : PlainStore) (h : Hidden) (file : File) (key body : List ℕ) → is_wrong_key key ≡ false → is_wrong_body [] body ≡ false
     → p.seq + 1 < 2 ^ 40 → p.place + 1 < 2 ^ 40 → length file < 2 ^ 31 → h.loose < 4064 → record_length key [] body ≤ 7024
     → told (session_at p h) file (record { lane = 0; verb = Set key [] body })
-      ≡ Some (session_at (after_set p key [] body) (record h { loose = (h.loose + record_length key [] body) % 4064; printed = p.place + 1 }),
-              plain_told p (record { lane = 0; verb = Set key [] body }))
+    ≡ Some (
+      session_at (after_set p key [] body) (record h { loose = (h.loose + record_length key [] body) % 4064; printed = p.place + 1 }),
+      plain_told p (record { lane = 0; verb = Set key [] body }),
+    )
 unfolding set_call
 told_set p h file key body k b s q f l len =
     let line : Line = record { lane = 0; verb = Set key [] body } in
@@ -119,7 +121,7 @@ told_commit_again p h file e d =
 
 told_commit : (p : PlainStore) (h : Hidden) (file : File) → eqb p.seq p.committed ≡ false → p.commit + 1 < 2 ^ 40 → p.place + 1 < 2 ^ 40
     → told (session_at p h) file commit_line
-      ≡ Some (session_at (after_commit p) (record h { old = p.documents; earlier = (state_at p h).last ∷ h.earlier; loose = 0; printed = p.place + 1 }), plain_told p commit_line)
+    ≡ Some (session_at (after_commit p) (record h { old = p.documents; earlier = (state_at p h).last ∷ h.earlier; loose = 0; printed = p.place + 1 }), plain_told p commit_line)
 unfolding commit_line
 told_commit p h file e c q =
     let after : Hidden = record h { old = p.documents; earlier = (state_at p h).last ∷ h.earlier; loose = 0; printed = p.place + 1 } in
@@ -209,8 +211,14 @@ commit_goes p h file s q false e = record {
   tells = told_commit p h file e (omega (arith, s.commit)) q ∙ rw e refl;
   stands = rw e (record { seq = omega (arith, s.seq); committed = omega arith; commit = omega (arith, s.commit); same = λ _. refl; open_block = omega arith });
   grows = rw (e, rises p.place) (record { records = bytes_block; nodes = []; header = []; all = refl; open_block = length-blocks _; flushed = λ h. absurd (omega arith) });
-  few = omega (arith, length-append (file ++ bytes_block ++ []) ([] ∷ []), length-append (file ++ bytes_block) [], length-append file bytes_block,
-      length-blocks (cond (eqb h.loose 0) 0 1), at_most_one (eqb h.loose 0));
+  few = omega (
+    arith,
+    length-append (file ++ bytes_block ++ []) ([] ∷ []),
+    length-append (file ++ bytes_block) [],
+    length-append file bytes_block,
+    length-blocks (cond (eqb h.loose 0) 0 1),
+    at_most_one (eqb h.loose 0),
+  );
 } where
   bytes_block : File
   bytes_block = blocks (cond (eqb h.loose 0) 0 1)

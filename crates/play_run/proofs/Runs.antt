@@ -147,12 +147,12 @@ run_more_by base heard heard' texts p q count text bytes t r runs plain small by
     let said : heard' ≡ heard ++ reply_line (plain_told p runs.line) = heard_are ∙ ap (λ xs. heard ++ xs) (bytes_are ∙ ap reply_line runs.told) in
     subst (λ h. HasRun base h (texts ++ text ∷ []) q (count + 1)) (sym said)
     (subst (λ (s : PlainStore). HasRun base (heard ++ reply_line (plain_told p runs.line)) (texts ++ text ∷ []) s (count + 1)) (sym runs.stored)
-     (run_more base heard texts p count runs.line text r runs.taken plain small))
+    (run_more base heard texts p count runs.line text r runs.taken plain small))
 
 -- before the first byte
 pub before_first : (base heard line_open : List ℕ) (p : PlainStore) → heard ≡ base → p ≡ new_plain → line_open ≡ [] → HasTaken base heard [] p line_open 0
 before_first base heard line_open p same store none =
     subst (λ (s : PlainStore). HasTaken base heard [] s line_open 0) (sym store)
     (subst (λ o. HasTaken base heard [] new_plain o 0) (sym none)
-     (subst (λ h. HasTaken base h [] new_plain [] 0) (sym same)
-      (record { texts = []; cut = refl; no_newline = tt; run = runs_none base })))
+    (subst (λ h. HasTaken base h [] new_plain [] 0) (sym same)
+    (record { texts = []; cut = refl; no_newline = tt; run = runs_none base })))

@@ -10,3 +10,8 @@ mod program;
 
 pub use player::SCRIPT_LIMIT;
 pub use program::{Played, play};
+
+#[cfg(test)]
+mod listener;
+#[cfg(test)]
+mod tests;

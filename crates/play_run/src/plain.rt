@@ -106,7 +106,12 @@ impl PlainStore {
         let seq = doc.seq;
         let DocKey { store: _, key } = key;
         Ok(Said::Got {
-            found: Found { seq, key, meta, body },
+            found: Found {
+                seq,
+                key,
+                meta,
+                body,
+            },
         })
     }
 

@@ -11,6 +11,7 @@ use block_host::{Failed, Host, Source};
 use std::alloc::{AllocError, Global};
 
 /// How a program ended, and its host.
+#[derive(Debug, Drop)]
 pub struct Played<H> {
     /// The exit status, 0 to 5.
     pub status: u8,
@@ -89,7 +90,12 @@ fn finish<H: Host>(alloc: Global, host: H, ended: Ended, count: u64) -> Played<H
 
 /// Runs the script of a source over a new store in memory, line by line, and says one reply line per line.
 /// A line is run as soon as it is whole. The words are `play --memory` exactly.
-pub fn play<S: Source, H: Host>(alloc: Global, words: &[String], source: &mut S, host: H) -> Played<H>
+pub fn play<S: Source, H: Host>(
+    alloc: Global,
+    words: &[String],
+    source: &mut S,
+    host: H,
+) -> Played<H>
     // Status 1: the words are refused, and nothing is read.
     ensures words { result.status ≡ 1 → ¬ (AreWords (map string_bytes words.now)) }
     ensures refused { ¬ (AreWords (map string_bytes words.now)) → (result.status ≡ 1) ⊎ (result.status ≡ 4) }

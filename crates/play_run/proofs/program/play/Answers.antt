@@ -27,7 +27,7 @@ returns-clause-bad g c = λ status told tells.
     let ends = c.run-ended.ensures.ends told tells _ (c.new-player.ensures.taken _ _ at_start) in
     let last = c.finish.ensures.bad status in
     played_bad _ _ _ _ _ _ _ ends last.0 (last.1 tells ∙ ap (λ xs. xs ++ bad_line (c.close-host.result.1 + 1)) closed
-      ∙ ap (λ n. (g.H.Host.disk c.run-ended.new.self.host).said ++ bad_line (n + 1)) c.close-host.ensures.count)
+    ∙ ap (λ n. (g.H.Host.disk c.run-ended.new.self.host).said ++ bad_line (n + 1)) c.close-host.ensures.count)
 
 pub returns-clause-memory : goal.returns-clause-memory
 returns-clause-memory g c = λ status told tells.
