@@ -1,4 +1,2 @@
 pub mod FiniteMaps
 pub mod KeyOrder
-pub mod Commits
-pub mod Mapped

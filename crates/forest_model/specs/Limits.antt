@@ -1,5 +1,5 @@
 -- The limits of keys, bodies, names and drawn numbers, as tests.
-use Rattle.std.specs.Prelude.{ℕ, ◌-◌, ◌^◌, Bool, ◌&&◌, ◌||◌, not, ◌==◌, List, [], length, nat_le, nat_lt}
+use Rattle.std.specs.Prelude.{ℕ, ◌-◌, ◌^◌, Bool, ◌&&◌, ◌||◌, not, ◌==◌, List, [], length, nat_le}
 use Rattle.std.specs.List.{list_all, list_any}
 use Rattle.forest_model.specs.declared.call.Item.{Item}
 use Rattle.forest_model.specs.declared.call.Item.TheVariants.{Put, Del}

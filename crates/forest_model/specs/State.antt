@@ -1,8 +1,7 @@
 -- The rules of a commit and of a state, the state of a new store, and what of a state is durable.
-use Rattle.std.specs.Prelude.{◌≡◌, ◌≢◌, ℕ, ◌+◌, ◌^◌, ◌<◌, ◌≤◌, ◌⊎◌, ◌&&◌, Bool, List, [], ◌∷◌, length, codes, Option, Some, None}
+use Rattle.std.specs.Prelude.{◌≡◌, ◌≢◌, ℕ, ◌^◌, ◌<◌, ◌≤◌, ◌⊎◌, ◌&&◌, Bool, List, [], ◌∷◌, length, codes, Option, Some, None}
 use Rattle.std.specs.List.{AllByRecursion}
 use Rattle.std.specs.FinMap as finite
-use Rattle.forest_model.specs.Key.{key_cmp}
 use Rattle.forest_model.specs.Documents.{Map, is_same_map}
 use Rattle.forest_model.specs.Stores.{store_of, new_store, are_same_stores}
 use Rattle.forest_model.specs.declared.call.Limits.{Limits}

@@ -1,11 +1,11 @@
 -- One step of the sequential store: the first refusal whose condition holds, else the answer with what it changes.
-use Rattle.std.specs.Prelude.{ℕ, ◌+◌, ◌-◌, ◌/◌, ◌%◌, Bool, true, false, ◌&&◌, ◌||◌, not, ◌==◌, List, [], ◌∷◌, ◌++◌, length, map, reverse, sum_by, Option, Some, None, is_none, is_some, find, nat_le, nat_lt, nat_eq, codes, if◌then◌else◌}
+use Rattle.std.specs.Prelude.{ℕ, ◌+◌, ◌/◌, ◌%◌, Bool, false, ◌&&◌, ◌||◌, not, ◌==◌, List, [], ◌∷◌, ◌++◌, length, map, reverse, sum_by, Option, Some, None, is_none, is_some, find, nat_le, nat_lt, nat_eq, codes, if◌then◌else◌}
 use Rattle.std.specs.List.{list_any}
 use Rattle.std.specs.Option.{option_map_or}
 use Rattle.std.specs.Cmp.Lexicographic.{pointwise}
 use Rattle.std.specs.FinMap as finite
 use Rattle.forest_model.specs.Limits.{is_wrong_key, is_wrong_body, has_wrong_key, has_wrong_body, is_name, any_worn}
-use Rattle.forest_model.specs.Documents.{Map, Entry, key_at, doc_of, doc_at, doc_numbered, count_of, without_store, after_items}
+use Rattle.forest_model.specs.Documents.{Map, key_at, doc_of, doc_at, doc_numbered, count_of, without_store, after_items}
 use Rattle.forest_model.specs.Stores.{store_of, store_named, seq_of, with_seq, new_store, without, has_seq, from_number}
 use Rattle.forest_model.specs.State.{retained, nothing_new}
 use Rattle.forest_model.specs.Blocks.{File, blocks_to_copy}
@@ -20,9 +20,7 @@ use Rattle.forest_model.specs.declared.call.Reply.TheVariants.{Seq, Document, In
 use Rattle.forest_model.specs.declared.documents.Doc.{Doc}
 use Rattle.forest_model.specs.declared.refusal.Refusal.{Refusal}
 use Rattle.forest_model.specs.declared.refusal.Refusal.TheVariants.{NotFound, NoCommit, ReadOnly, KeyLength, BodyLength, Compacting, NoTicket, FileFull, NoStore, StoreCount, NameForm, NotCopied, Worn}
-use Rattle.forest_model.specs.declared.state.Store.{Store as StoreRow}
 use Rattle.forest_model.specs.declared.state.Commit.{Commit as CommitRow}
-use Rattle.forest_model.specs.declared.state.Copying.{Copying}
 use Rattle.forest_model.specs.declared.state.State.{State}
 
 -- a reply, and the state after it

@@ -1,0 +1,10 @@
+//! The sequential store as a program: slow and plain, over ordered maps and lists.
+//!
+//! It promises that each step of it is the defined step of the sequential store where no file is full:
+//! the same reply, and the same state after it. Nothing is refused beyond that but for want of memory,
+//! which leaves the state as it was. So it is what a faster store is compared with.
+#![tactic(auto)]
+
+mod oracle;
+
+pub use oracle::Oracle;
