@@ -3,3 +3,4 @@ mod Padding
 mod Room
 mod Front
 pub mod Back
+mod InTurn

@@ -2,3 +2,4 @@ mod Picks
 mod Least
 mod Steps
 mod Told
+mod Crashes

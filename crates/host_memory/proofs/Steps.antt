@@ -33,12 +33,12 @@ Does-same file (Slot slot) blocks image = put-same slot (block_at blocks slot) i
 Does-same file (Shorten n) blocks image = inl refl
 Does-same file Adopt blocks image = inl refl
 
-slice_get-front : (xs ys : List Block) (i : ℕ) → i < length xs → slice_get (xs ++ ys) i ≡ slice_get xs i
+pub slice_get-front : (xs ys : List Block) (i : ℕ) → i < length xs → slice_get (xs ++ ys) i ≡ slice_get xs i
 slice_get-front [] ys i within = absurd (omega (arith, within))
 slice_get-front (x ∷ xs) ys zero within = refl
 slice_get-front (x ∷ xs) ys (suc i) within = slice_get-front xs ys i (omega (arith, within))
 
-slice_get-split : (xs ys : List Block) (i : ℕ) (block : Block) → slice_get (xs ++ ys) i ≡ Some block → (slice_get xs i ≡ Some block) ⊎ ((length xs ≤ i) × (slice_get ys (i - length xs) ≡ Some block))
+pub slice_get-split : (xs ys : List Block) (i : ℕ) (block : Block) → slice_get (xs ++ ys) i ≡ Some block → (slice_get xs i ≡ Some block) ⊎ ((length xs ≤ i) × (slice_get ys (i - length xs) ≡ Some block))
 slice_get-split [] ys i block is = inr (omega arith, subst (λ (k : ℕ). slice_get ys k ≡ Some block) (omega arith) is)
 slice_get-split (x ∷ xs) ys zero block is = inl is
 slice_get-split (x ∷ xs) ys (suc i) block is =
@@ -66,10 +66,10 @@ does-slot file slot block old before after low does = subst (λ (b : Block). Put
 within : (o : Option Block) (block : Block) → o ≡ Some block → Some (unwrap_or o zero_block) ≡ o
 within o block is = rw is refl
 
-block_at-within : (old : List Block) (i : ℕ) → i < length old → Some (block_at old i) ≡ slice_get old i
+pub block_at-within : (old : List Block) (i : ℕ) → i < length old → Some (block_at old i) ≡ slice_get old i
 block_at-within old i lt = within (slice_get old i) (get_or old i zero_block) (slice_get-get_or old i zero_block lt)
 
-found_or_torn : (i : ℕ) (o : Option Block) (other : Block) → Some (unwrap_or o zero_block) ≡ Some other → (o ≡ Some other) ⊎ IsTorn 0 i other
+pub found_or_torn : (i : ℕ) (o : Option Block) (other : Block) → Some (unwrap_or o zero_block) ≡ Some other → (o ≡ Some other) ⊎ IsTorn 0 i other
 found_or_torn i (Some block) other is = inl is
 found_or_torn i None other is = let same : zero_block ≡ other = cc in inr (subst (IsTorn 0 i) same (zero_block-torn 0 i))
 

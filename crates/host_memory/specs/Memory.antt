@@ -1,9 +1,10 @@
 -- What a host in memory tells.
-use Rattle.std.specs.Prelude.{◌≡◌, ◌⊎◌, ◌∷◌, ℕ, List, [], length}
+use Rattle.std.specs.Prelude.{Bool, ◌≡◌, ◌⊎◌, ◌∷◌, ℕ, List, [], length}
 use Rattle.std.proofs.Common.{refl, inl, inr, arith, ⊎_elim}
 use Rattle.block_host.specs.declared.block.Block.{Block}
 use Rattle.block_host.specs.Disk.{Image, Disk, Lawful}
-use Rattle.host_memory.specs.Pending.{Leaves, Noted}
+use Rattle.host_memory.specs.Pending.{FileState, Leaves, Noted}
+use Rattle.host_memory.specs.Faults.{is_due, listed_of}
 use Rattle.host_memory.specs.Held.{held}
 use Rattle.host_memory.specs.Since.{Since, Since-below, Since-earlier}
 use Rattle.host_memory.specs.declared.state.State.{State}
@@ -32,6 +33,36 @@ memory_disk host = disk_of host.state host.past.items
 
 abbrev pub memory_faults : MemoryHost → ℕ
 memory_faults host = host.own.count
+
+-- how many calls failed for want of memory
+abbrev pub memory_short : MemoryHost → ℕ
+memory_short host = host.own.short
+
+-- whether the host's next call that can fail is to fail
+abbrev pub memory_due : MemoryHost → Bool
+memory_due host = is_due host.own
+
+-- what is known of a file: its blocks, and the changes that are pending
+abbrev pub memory_file : MemoryHost → ℕ → FileState
+memory_file host = held host.state
+
+-- how many of the host's calls that can fail were made; which of them, of a view's and of a fresh file's are to fail; and after how many each fails
+pub record Plan : Type 0 where
+  pub calls : ℕ
+  pub host : List ℕ
+  pub views : List ℕ
+  pub fresh : List ℕ
+  pub stop : ℕ
+
+abbrev pub memory_plan : MemoryHost → Plan
+memory_plan host = record { calls = host.own.calls; host = listed_of host.own.listed; views = listed_of host.views; fresh = listed_of host.fresh; stop = host.own.stop }
+
+-- the files, what a crash leaves, the bytes said and the counts stay
+pub record Untouched (old new : MemoryHost) : Type 0 where
+  pub state : new.state ≡ old.state
+  pub past : new.past.items ≡ old.past.items
+  pub faults : memory_faults new ≡ memory_faults old
+  pub short : memory_short new ≡ memory_short old
 
 pub Leaves-present : (file : ℕ) (blocks : List Block) (steps : List Noted) → Leaves file blocks steps blocks
 Leaves-present file blocks [] = refl

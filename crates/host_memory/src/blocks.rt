@@ -1,4 +1,4 @@
-ghost use Rattle.std.specs.Prelude.{◌≡◌, ◌-◌, ◌<◌, ◌++◌, [], ◌∷◌, length, take, replicate, slice_get, option_copied, IfOk, OnOk, OnErr};
+ghost use Rattle.std.specs.Prelude.{◌≡◌, ◌-◌, ◌<◌, ◌++◌, [], ◌∷◌, length, take, replicate, slice_get, slice_set, option_copied, IfOk, OnOk, OnErr};
 ghost use Rattle.std.specs.Arc.{arc_value};
 ghost use Rattle.block_host.specs.Calls.{block_at, with_slot};
 
@@ -150,6 +150,18 @@ impl Blocks {
     {
         let mut blocks = self.share()?;
         blocks.blocks.truncate(len as usize);
+        Ok(blocks)
+    }
+
+    /// These blocks with another in the place of one of them.
+    pub(crate) fn replaced(&self, at: u64, block: &Arc<Block>) -> Result<Blocks, AllocError>
+        ensures { IfOk result (λ blocks. blocks ≡ slice_set self.now at (arc_value block.now)) }
+    {
+        let mut blocks = self.share()?;
+        if at >= self.len() {
+            return Ok(blocks);
+        }
+        blocks.blocks[at as usize] = Arc::try_clone(block)?;
         Ok(blocks)
     }
 }

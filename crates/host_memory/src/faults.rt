@@ -1,5 +1,7 @@
 ghost use Rattle.std.specs.Prelude.{◌≡◌, ◌+◌, ◌-◌, ◌^◌, ◌≤◌, min, nat_lt, not, if◌then◌else◌};
 ghost use Rattle.std.specs.Result.{is_err};
+ghost use Rattle.std.specs.List.{list_any};
+ghost use Rattle.std.specs.Prelude.{◌==◌};
 ghost use Rattle.block_host.specs.Disk.{risen};
 
 use block_host::Failed;
@@ -8,7 +10,7 @@ use std::sync::Arc;
 /// Which calls of an object are to fail, and how many failed. Calls are numbered from 1.
 #[derive(Drop)]
 pub(crate) struct Faults {
-    listed: Arc<Vec<u64>>,
+    listed: Option<Arc<Vec<u64>>>,
     stop: u64,
     calls: u64,
     count: u64,
@@ -16,10 +18,10 @@ pub(crate) struct Faults {
 }
 
 impl Faults {
-    ghost use Rattle.host_memory.specs.Faults.{is_due, no_calls};
+    ghost use Rattle.host_memory.specs.Faults.{is_due, no_calls, listed_of};
 
     /// No call has been made; those of these numbers are to fail.
-    pub(crate) fn new(listed: Arc<Vec<u64>>) -> Faults
+    pub(crate) fn new(listed: Option<Arc<Vec<u64>>>) -> Faults
         ensures { result ≡ no_calls listed }
     {
         Faults {
@@ -31,6 +33,30 @@ impl Faults {
         }
     }
 
+    // Whether a call's number is listed.
+    fn lists(&self, number: u64) -> bool
+        ensures { result ≡ list_any (λ other. other == number) (listed_of self.now.listed) }
+    {
+        match &self.listed {
+            Some(numbers) => numbers.contains(&number),
+            None => false,
+        }
+    }
+
+    /// From now on the calls of these numbers are to fail.
+    pub(crate) fn list(&mut self, listed: Option<Arc<Vec<u64>>>)
+        ensures { self.new ≡ record self.old { listed = listed } }
+    {
+        self.listed = listed;
+    }
+
+    /// Each call after this many is to fail.
+    pub(crate) fn stop_after(&mut self, calls: u64)
+        ensures { self.new ≡ record self.old { stop = calls } }
+    {
+        self.stop = calls;
+    }
+
     /// Counts a call, which fails where it is to fail.
     pub(crate) fn admit(&mut self) -> Result<(), Failed>
         ensures due { is_err result ≡ is_due self.old }
@@ -40,7 +66,7 @@ impl Faults {
         ensures same { (self.new.listed ≡ self.old.listed) × (self.new.stop ≡ self.old.stop) × (self.new.short ≡ self.old.short) }
     {
         self.calls = self.calls.saturating_add(1);
-        if self.listed.contains(&self.calls) || self.calls > self.stop {
+        if self.lists(self.calls) || self.calls > self.stop {
             self.count = self.count.saturating_add(1);
             return Err(Failed);
         }
@@ -53,7 +79,7 @@ impl Faults {
         ensures same { self.new ≡ record self.old { calls = risen self.old.calls } }
     {
         self.calls = self.calls.saturating_add(1);
-        !self.listed.contains(&self.calls) && self.calls <= self.stop
+        !self.lists(self.calls) && self.calls <= self.stop
     }
 
     /// How many calls have failed.
@@ -61,6 +87,13 @@ impl Faults {
         ensures { result ≡ self.now.count }
     {
         self.count
+    }
+
+    /// How many calls have failed for want of memory.
+    pub(crate) fn short(&self) -> u64
+        ensures { result ≡ self.now.short }
+    {
+        self.short
     }
 
     /// Counts a failure for want of memory.

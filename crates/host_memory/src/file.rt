@@ -1,4 +1,5 @@
-ghost use Rattle.std.specs.Prelude.{◌≡◌, ◌<◌, ◌++◌, [], ◌∷◌, length, take, IfOk};
+ghost use Rattle.std.specs.Prelude.{◌≡◌, ◌<◌, ◌++◌, [], ◌∷◌, length, take, slice_set, IfOk};
+ghost use Rattle.block_host.specs.Sealed.{zero_block};
 ghost use Rattle.block_host.specs.Calls.{with_slot};
 ghost use Rattle.host_memory.specs.Pending.{FileState, oldest, torn_of, picked};
 ghost use Rattle.host_memory.specs.declared.change.Change.TheVariants.{Append, Slot, Shorten, Adopt};
@@ -141,6 +142,18 @@ impl File {
             blocks: next,
             pending: Some(Pending { synced, torn }),
             zero: Arc::try_clone(&self.zero)?,
+        })
+    }
+
+    /// The file with a block zeroed, all of it on the disk.
+    pub(crate) fn spoiled(&self, at: u64) -> Result<File, AllocError>
+        ensures { IfOk result (λ file. file ≡ record { blocks = slice_set self.now.blocks at zero_block; steps = [] }) }
+    {
+        Ok(File {
+            blocks: self.blocks.replaced(at, &self.zero)?,
+            pending: None,
+            zero: Arc::try_clone(&self.zero)?,
+            steps: Past::new(),
         })
     }
 

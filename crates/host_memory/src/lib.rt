@@ -15,3 +15,6 @@ pub use fresh::MemoryFresh;
 pub use memory_host::MemoryHost;
 pub use pick::Pick;
 pub use view::MemoryView;
+
+#[cfg(test)]
+mod tests;

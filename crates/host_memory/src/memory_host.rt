@@ -1,6 +1,6 @@
-ghost use Rattle.std.specs.Prelude.{◌≡◌, ◌≤◌, true, ℕ, [], unwrap_or, IfOk};
+ghost use Rattle.std.specs.Prelude.{◌≢◌, ◌<◌, ◌-◌, ◌^◌, slice_get, slice_set, option_copied, OnOk, OnErr, ◌≡◌, ◌≤◌, true, ℕ, [], unwrap_or, IfOk};
+ghost use Rattle.host_memory.specs.Faults.{listed_of};
 
-use crate::blocks::Blocks;
 use crate::faults::Faults;
 use crate::state::State;
 use crate::{MemoryFresh, MemoryView, Pick};
@@ -17,13 +17,15 @@ pub struct MemoryHost {
     past: Past<State>,
     own: Faults,
     greatest: u64,
-    views: Arc<Vec<u64>>,
-    fresh: Arc<Vec<u64>>,
+    views: Option<Arc<Vec<u64>>>,
+    fresh: Option<Arc<Vec<u64>>>,
 }
 
 impl MemoryHost {
     ghost use Rattle.block_host.specs.Disk.{Image};
-    ghost use Rattle.host_memory.specs.Memory.{memory_disk, memory_faults};
+    ghost use Rattle.block_host.specs.Sealed.{zero_block};
+    ghost use Rattle.host_memory.specs.Pending.{picked};
+    ghost use Rattle.host_memory.specs.Memory.{memory_disk, memory_faults, memory_short, memory_file, memory_plan, Untouched};
 
     /// A host without files that has said nothing and not failed.
     pub fn empty(alloc: Global) -> Result<MemoryHost, AllocError>
@@ -37,10 +39,10 @@ impl MemoryHost {
             alloc,
             state: State::new(alloc),
             past: Past::new(),
-            own: Faults::new(Arc::new(alloc, Vec::new(alloc))?),
+            own: Faults::new(None),
             greatest: 0,
-            views: Arc::new(alloc, Vec::new(alloc))?,
-            fresh: Arc::new(alloc, Vec::new(alloc))?,
+            views: None,
+            fresh: None,
         })
     }
 
@@ -58,13 +60,92 @@ impl MemoryHost {
         self.own.count()
     }
 
+    /// How many calls failed for want of memory. It stays at its last value.
+    pub fn short(&self) -> u64
+        ensures { result ≡ memory_short self.now }
+    {
+        self.own.short()
+    }
+
+    /// Makes calls fail by their numbers, counted from 1: the host's, and those of each view and each fresh file that is
+    /// made from now on.
+    pub fn fail_calls(
+        &mut self,
+        host: &[u64],
+        views: &[u64],
+        fresh: &[u64],
+    ) -> Result<(), AllocError>
+        ensures ok { OnOk result (memory_plan self.new ≡ record (memory_plan self.old) { host = host.now; views = views.now; fresh = fresh.now }) }
+        ensures err { OnErr result (memory_plan self.new ≡ memory_plan self.old) }
+        ensures untouched { Untouched self.old self.new }
+    {
+        let host = Arc::new(self.alloc, host.to_vec(self.alloc)?)?;
+        let views = Arc::new(self.alloc, views.to_vec(self.alloc)?)?;
+        let fresh = Arc::new(self.alloc, fresh.to_vec(self.alloc)?)?;
+        self.own.list(Some(host));
+        self.views = Some(views);
+        self.fresh = Some(fresh);
+        Ok(())
+    }
+
+    /// Makes each call of the host that can fail do so after this many of them, counted from the host's first.
+    pub fn stop_after(&mut self, calls: u64)
+        ensures plan { memory_plan self.new ≡ record (memory_plan self.old) { stop = calls } }
+        ensures untouched { Untouched self.old self.new }
+    {
+        self.own.stop_after(calls);
+    }
+
+    /// A host with the image that a crash now leaves. Nothing is pending, nothing has failed and no call is to fail; what
+    /// was said stays said.
+    pub fn reopen(self, pick: Pick) -> MemoryHost
+        ensures image { (memory_disk self).may_leave (memory_disk result).files }
+        ensures picked { (file : ℕ) → (memory_disk result).files file ≡ picked pick (memory_file self file) }
+        ensures settled { (image : Image) → (memory_disk result).may_leave image → image ≡ (memory_disk result).files }
+        ensures said { (memory_disk result).said ≡ (memory_disk self).said }
+        ensures moment { (memory_disk result).moment ≡ 0 }
+        ensures faults { (memory_faults result ≡ 0) × (memory_short result ≡ 0) }
+        ensures plan { memory_plan result ≡ record { calls = 0; host = []; views = []; fresh = []; stop = 2 ^ 64 - 1 } }
+    {
+        let mut host = self;
+        host.state.crash(pick);
+        host.past = Past::new();
+        host.own = Faults::new(None);
+        host.greatest = 0;
+        host.views = None;
+        host.fresh = None;
+        host
+    }
+
+    /// A block of a file, where there is one.
+    pub fn block(&self, file: u64, at: u64) -> Option<&Block>
+        ensures { option_copied result ≡ slice_get ((memory_disk self.now).files file) at }
+    {
+        self.state.block(file, at)
+    }
+
+    /// Zeroes a block of a file, all of which is on the disk then; or raises `short` and changes nothing else.
+    pub fn spoil(&mut self, file: u64, at: u64)
+        ensures spoiled { memory_short self.new ≡ memory_short self.old → memory_short self.old < 2 ^ 64 - 1 → memory_file self.new file ≡ record { blocks = slice_set (memory_file self.old file).blocks at zero_block; steps = [] } }
+        ensures others { (other : ℕ) → other ≢ file → memory_file self.new other ≡ memory_file self.old other }
+        ensures said { (memory_disk self.new).said ≡ (memory_disk self.old).said }
+    {
+        let past = self.past.and(&self.state);
+        match self.state.spoil(self.alloc, file, at) {
+            Ok(()) => self.past = past,
+            Err(_) => {
+                let Failed = self.own.run_short();
+            }
+        }
+    }
+
     // A view on these blocks.
     fn view_of(&self, file: u64) -> Result<MemoryView, AllocError>
         ensures content { IfOk result (λ view. view.blocks ≡ (memory_disk self.now).files file) }
         ensures made { IfOk result (λ view. view.own.count ≡ 0) }
     {
         let blocks = self.state.share(self.alloc, file)?;
-        Ok(MemoryView::new(blocks, Faults::new(Arc::try_clone(&self.views)?)))
+        Ok(MemoryView::new(blocks, Faults::new(again(&self.views)?)))
     }
 
     // An empty fresh file.
@@ -73,7 +154,7 @@ impl MemoryHost {
         ensures number { IfOk result (λ fresh. fresh.file ≡ file) }
         ensures made { IfOk result (λ fresh. fresh.own.count ≡ 0) }
     {
-        let own = Faults::new(Arc::try_clone(&self.fresh)?);
+        let own = Faults::new(again(&self.fresh)?);
         Ok(MemoryFresh::new(file, Vec::new(self.alloc), own))
     }
 }
@@ -213,11 +294,11 @@ impl Host for MemoryHost {
 
     fn say(&mut self, bytes: &[u8]) -> Result<(), Failed> {
         self.own.admit()?;
-        let past = self.past.and(&self.state);
+        let noted = self.past.and(&self.state);
         if self.state.say(bytes).is_err() {
             return Err(self.own.run_short());
         }
-        self.past = past;
+        self.past = noted;
         Ok(())
     }
 
@@ -233,5 +314,15 @@ fn blocks_of(alloc: Global, settled: Settled) -> Vec<Block>
     match settled.blocks() {
         Some(blocks) => blocks,
         None => Vec::new(alloc),
+    }
+}
+
+// The same list once more.
+fn again(list: &Option<Arc<Vec<u64>>>) -> Result<Option<Arc<Vec<u64>>>, AllocError>
+    ensures { IfOk result (λ other. listed_of other ≡ listed_of list.now) }
+{
+    match list {
+        Some(numbers) => Ok(Some(Arc::try_clone(numbers)?)),
+        None => Ok(None),
     }
 }

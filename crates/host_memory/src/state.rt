@@ -1,4 +1,5 @@
-ghost use Rattle.std.specs.Prelude.{◌≡◌, ◌<◌, ◌++◌, [], ◌∷◌, ℕ, length, take, IfOk, OnOk, OnErr};
+ghost use Rattle.std.specs.Prelude.{◌≡◌, ◌<◌, ◌++◌, [], ◌∷◌, ℕ, length, take, slice_set, slice_get, option_copied, IfOk, OnOk, OnErr};
+ghost use Rattle.block_host.specs.Sealed.{zero_block};
 ghost use Rattle.std.specs.Bool.{OnTrue, OnFalse};
 ghost use Rattle.host_memory.specs.Pending.{no_file, picked};
 ghost use Rattle.block_host.specs.Calls.{block_at, with_slot, NextFile};
@@ -115,6 +116,28 @@ impl State {
                 true
             }
             None => false,
+        }
+    }
+
+    /// A block of a file zeroed, and all of the file on the disk.
+    pub(crate) fn spoil(&mut self, alloc: Global, number: u64, at: u64) -> Result<(), AllocError>
+        ensures ok { OnOk result (Becomes number (record { blocks = slice_set (held self.old number).blocks at zero_block; steps = [] }) self.old self.new) }
+        ensures err { OnErr result (Stays self.old self.new) }
+    {
+        let next = match self.files.get(&number) {
+            Some(file) => file.spoiled(at)?,
+            None => File::empty(alloc)?,
+        };
+        self.store(number, next)
+    }
+
+    /// A block of a file, where there is one.
+    pub(crate) fn block(&self, number: u64, at: u64) -> Option<&Block>
+        ensures { option_copied result ≡ slice_get (held self.now number).blocks at }
+    {
+        match self.files.get(&number) {
+            Some(file) => file.blocks().get(at),
+            None => None,
         }
     }
 
