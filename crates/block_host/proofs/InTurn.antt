@@ -40,8 +40,8 @@ pub begun_written : (file : ℕ) (old records image : List Block) → Written fi
 begun_written file old records image written = record {
   front = same_front old image written.no_shorter (λ i lt. written.kept i lt (inl lt));
   behind = λ i block past is. elim (written.each i block is) [
-    inl before ↦ absurd (none_past old i block past before)
-  | inr rest ↦ elim rest [ inl record_ ↦ inl record_.1 | inr torn ↦ inr torn ]
+    | inl before ↦ absurd (none_past old i block past before)
+    | inr rest ↦ elim rest [ inl record_ ↦ inl record_.1 | inr torn ↦ inr torn ]
   ];
 }
 
@@ -90,22 +90,22 @@ module _ (file : ℕ) (old records : List Block) (header : Block) (image : List 
       inl (subst (Begun file old records) (sym same) (begun_whole file old records))
   at_end (Some block) is =
       elim (written.each (length (old ++ records)) block is) [
-        inl before ↦ absurd (none_past (old ++ records) (length (old ++ records)) block (omega arith) before)
-      | inr rest ↦ elim rest [
-          inl put ↦ (
-            let one = single header block (length (old ++ records) - length (old ++ records)) put.1 in
-            inr (one_more (old ++ records) image header whole_front (let most = written.no_longer in omega (arith, most)) (is ∙ ap (λ (b : Block). Some b) (sym one.1))))
-        | inr torn ↦ inl (record {
+        | inl before ↦ absurd (none_past (old ++ records) (length (old ++ records)) block (omega arith) before)
+        | inr rest ↦ elim rest [
+          | inl put ↦ (
+              let one = single header block (length (old ++ records) - length (old ++ records)) put.1 in
+              inr (one_more (old ++ records) image header whole_front (let most = written.no_longer in omega (arith, most)) (is ∙ ap (λ (b : Block). Some b) (sym one.1))))
+          | inr torn ↦ inl (record {
             front = old_front;
             behind = λ i other past there. elim (written.each i other there) [
-              inl before ↦ inl (split old records i other past before)
-            | inr more ↦ elim more [
-                inl put ↦ (
-                  let one = single header other (i - length (old ++ records)) put.1 in
-                  let here : i ≡ length (old ++ records) = omega (arith, put.0, one.0) in
-                  let same : other ≡ block = let e : Some other ≡ Some block = sym there ∙ ap (slice_get image) here ∙ is in cc in
-                  inr (subst (λ (k : ℕ). IsTorn file k other) (sym here) (subst (IsTorn file (length (old ++ records))) (sym same) torn)))
-              | inr torn_too ↦ inr torn_too
+              | inl before ↦ inl (split old records i other past before)
+              | inr more ↦ elim more [
+                | inl put ↦ (
+                    let one = single header other (i - length (old ++ records)) put.1 in
+                    let here : i ≡ length (old ++ records) = omega (arith, put.0, one.0) in
+                    let same : other ≡ block = let e : Some other ≡ Some block = sym there ∙ ap (slice_get image) here ∙ is in cc in
+                    inr (subst (λ (k : ℕ). IsTorn file k other) (sym here) (subst (IsTorn file (length (old ++ records))) (sym same) torn)))
+                | inr torn_too ↦ inr torn_too
               ]
             ];
           })

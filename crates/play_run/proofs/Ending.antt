@@ -1,9 +1,9 @@
 -- How the run of a source's bytes ends.
-use Rattle.std.proofs.Common.{◌≡◌, ◌≢◌, ℕ, ◌+◌, ◌<◌, ◌≤◌, ◌^◌, Bool, true, false, eqb, List, [], ◌∷◌, ◌++◌, length, take, drop, get_or, suc, min, refl, sym, ap, subst, ◌∙◌, arith, append_assoc, append-nil, length-append, length-take, length-drop, ◌-◌, inl, inr}
+use Rattle.std.proofs.Common.{◌≡◌, ◌≢◌, ℕ, ◌+◌, ◌≤◌, true, false, eqb, List, [], ◌∷◌, ◌++◌, length, take, drop, get_or, refl, sym, ap, subst, ◌∙◌, arith, append_assoc, append-nil, length-append, length-take, length-drop, ◌-◌, inl, inr}
 use Rattle.std.proofs.Math.Seq.{take-add}
 use Rattle.std.proofs.lemmas.Bool.{eqb-true, false≢true}
-use Rattle.play_run.specs.Script.{IsText, IsBad, ended, HasSaid, last_line, IsTooLong}
-use Rattle.play_run.specs.Progress.{HasRun, HasTaken, HasHeard, Stops, StopsText, StopsAtBad, StopsAmong, Feeds, EndsBy, EndsWhole, EndsAtBad, EndsAtFault, EndsAmong}
+use Rattle.play_run.specs.Script.{IsText, ended, HasSaid, last_line}
+use Rattle.play_run.specs.Progress.{HasRun, HasTaken, HasHeard, Stops, StopsText, StopsAtBad, StopsAmong, Feeds, EndsBy}
 use Rattle.play_run.specs.declared.plain.PlainStore.{PlainStore}
 use Rattle.play_run.specs.declared.player.Ended.{Ended}
 use Rattle.play_run.specs.declared.player.Ended.TheVariants.{BadLine, NoMemory, HostFault, SourceFault, AtEnd}

@@ -1,16 +1,15 @@
 -- What a run that has ended says of the whole program.
-use Rattle.std.proofs.Common.{◌≡◌, ℕ, ◌+◌, ◌⊎◌, Bool, true, false, ◌&&◌, List, [], ◌∷◌, ◌++◌, length, map, get_or, refl, sym, ap, subst, ◌∙◌, arith, append_assoc, inl, inr}
-use Rattle.std.specs.Prelude.{IsTrue, nat_eq, ◌↔◌, codes}
+use Rattle.std.proofs.Common.{◌≡◌, ℕ, ◌+◌, ◌⊎◌, Bool, true, false, ◌&&◌, List, [], ◌∷◌, ◌++◌, length, get_or, refl, sym, ap, subst, ◌∙◌, arith, append_assoc, inl, inr}
+use Rattle.std.specs.Prelude.{IsTrue, nat_eq, ◌↔◌}
 use Rattle.std.specs.Cmp.Lexicographic.{pointwise, same_text, other_text}
-use Rattle.std.specs.String.{string_bytes}
 use Rattle.std.proofs.lemmas.Bool.{false≢true}
 use Rattle.std.specs.declared.alloc.Global.{Global}
 use Rattle.std.specs.declared.string.String.{String}
-use Rattle.play_run.specs.Script.{RunsAll, RunsPrefix, MeetsBad, bad_line, AreWords}
+use Rattle.play_run.specs.Script.{RunsAll, RunsPrefix, MeetsBad, bad_line}
 use Rattle.play_run.specs.Play.{SaysSince, Takes, RunsAndSays, source_fault}
 use Rattle.play_run.specs.Progress.{EndsBy, EndsAtBad, EndsAmong, EndsAtFault}
 use Rattle.play_run.specs.declared.player.Ended.{Ended}
-use Rattle.play_run.specs.declared.player.Ended.TheVariants.{BadLine, NoMemory, HostFault, SourceFault, AtEnd}
+use Rattle.play_run.specs.declared.player.Ended.TheVariants.{BadLine, NoMemory, SourceFault, AtEnd}
 
 module _ (base heard now script left : List ℕ) (count : ℕ) (why : Ended) (ends : EndsBy why base heard script left count) where
   pub played_all : why ≡ AtEnd → now ≡ heard → (left ≡ []) × SaysSince base now (RunsAll script)

@@ -1,17 +1,17 @@
 -- A line over the plain store is one of the session that it stands for.
-use Rattle.std.proofs.Common.{length-append, ◌≡◌, ℕ, ◌+◌, ◌*◌, ◌<◌, ◌≤◌, ◌/◌, ◌%◌, ◌^◌, Bool, true, false, cond, ◌&&◌, ◌||◌, not, eqb, ltb, leb, List, [], ◌∷◌, ◌++◌, length, replicate, Option, Some, None, refl, sym, ap, subst, ◌∙◌, arith, eq-eqb}
+use Rattle.std.proofs.Common.{length-append, ◌≡◌, ℕ, ◌+◌, ◌<◌, ◌≤◌, ◌/◌, ◌%◌, ◌^◌, Bool, true, false, cond, ◌&&◌, not, eqb, leb, List, [], ◌∷◌, ◌++◌, length, replicate, Option, Some, None, refl, sym, ap, subst, ◌∙◌, arith, eq-eqb}
 use Rattle.std.proofs.lemmas.Bool.{eqb-true, leb-true, false≢true}
 use Rattle.std.proofs.lemmas.List.{length-replicate}
 use Rattle.std.specs.Cmp.Lexicographic.{pointwise, nat_list_eq_equiv}
 use Rattle.std.proofs.lemmas.Bool.Decides.{nat_tests}
-use Rattle.std.specs.Prelude.{nat_lt, nat_le, nat_eq, ◌==◌, IsTrue, is_none}
+use Rattle.std.specs.Prelude.{nat_lt, ◌==◌, IsTrue}
 use Rattle.std.specs.FinMap as finite
 use Rattle.forest_model.specs.Limits.{is_wrong_key, is_wrong_body, is_worn, any_worn}
 use Rattle.forest_model.specs.Documents.{Map, Entry, is_same_map, is_same_entry, doc_at}
 use Rattle.forest_model.specs.Blocks.{File}
 use Rattle.forest_model.specs.State.{nothing_new}
-use Rattle.forest_model.specs.Step.{causes, first_cause, full, step_of, answer, refused_or, record_length}
-use Rattle.forest_model.specs.Session.{Session, Lane, told, told_by_file, Telling, with_lane, first_lane}
+use Rattle.forest_model.specs.Step.{causes, first_cause, full, step_of, answer, record_length}
+use Rattle.forest_model.specs.Session.{Lane, told, told_by_file, Telling, with_lane, first_lane}
 use Rattle.forest_model.specs.Run.{FileAfter, call_in}
 use Rattle.forest_model.specs.declared.call.Call.{Call}
 use Rattle.forest_model.specs.declared.call.Call.TheVariants as calls

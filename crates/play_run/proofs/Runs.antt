@@ -1,12 +1,11 @@
 -- How a run of lines goes on, and what it says.
-use Rattle.std.proofs.Common.{◌≡◌, ◌≢◌, ℕ, suc, ◌+◌, ◌*◌, ◌<◌, ◌≤◌, ◌^◌, List, [], ◌∷◌, ◌++◌, length, Option, Some, None, Bool, true, false, cond, eqb, refl, sym, ap, subst, ◌∙◌, arith, append_assoc, append-nil, length-append, inl, inr}
+use Rattle.std.proofs.Common.{◌≡◌, ℕ, suc, ◌+◌, ◌<◌, ◌≤◌, ◌^◌, List, [], ◌∷◌, ◌++◌, length, None, Bool, true, false, cond, eqb, refl, sym, ap, subst, ◌∙◌, arith, append_assoc, append-nil, length-append, inl}
 use Rattle.std.specs.Prelude.{IsTrue, ◌==◌}
-use Rattle.std.specs.List.{AllByRecursion}
 use Rattle.forest_model.specs.Blocks.{File}
 use Rattle.forest_model.specs.Session.{Session, Lane, first_lane, with_lane}
 use Rattle.forest_model.specs.Session as sessions
 use Rattle.forest_model.specs.Run.{Run, FileAfter, call_in}
-use Rattle.forest_model.specs.State.{new_state, usual_limits, no_documents}
+use Rattle.forest_model.specs.State.{no_documents}
 use Rattle.forest_model.specs.declared.line.Line.{Line}
 use Rattle.forest_model.specs.declared.line.Told.{Told}
 use Rattle.forest_model.specs.declared.line.Said.{Said}
@@ -14,9 +13,9 @@ use Rattle.forest_model.specs.declared.line.Said.TheVariants.{Committed}
 use Rattle.forest_model.specs.declared.line.Verb.{Verb}
 use Rattle.forest_model.specs.declared.line.Verb.TheVariants.{Set, Commit}
 use Rattle.play_run.specs.Built.{is_built}
-use Rattle.play_run.specs.Plain.{Hidden, session_at, state_at, lanes_at, lane_at, Stands, plain_answer, plain_told, after_commit, new_plain, AreWithin}
-use Rattle.play_run.specs.Script.{start, IsTaken, AreTaken, IsText, IsBad, ended, replies, reply_line, HasSaid}
-use Rattle.play_run.specs.Progress.{Reaches, HasRun, HasTaken, HasHeard, RunsText, StopsAtBad, StopsAmong}
+use Rattle.play_run.specs.Plain.{Hidden, session_at, state_at, lanes_at, lane_at, Stands, plain_answer, plain_told, after_commit, new_plain}
+use Rattle.play_run.specs.Script.{start, IsTaken, AreTaken, IsText, ended, replies, reply_line}
+use Rattle.play_run.specs.Progress.{Reaches, HasRun, HasTaken, HasHeard, RunsText}
 use Rattle.play_run.specs.declared.plain.PlainStore.{PlainStore}
 use Rattle.play_run.proofs.PlainSteps.{LineGoes, line_goes}
 

@@ -1,11 +1,8 @@
 -- What the next byte of a script leaves of what was taken.
-use Rattle.std.proofs.Common.{◌≡◌, ◌≢◌, ℕ, ◌+◌, ◌<◌, ◌^◌, List, [], ◌∷◌, ◌++◌, length, take, drop, get_or, suc, refl, sym, ap, subst, ◌∙◌, arith, append_assoc, append-nil, drop-cons}
+use Rattle.std.proofs.Common.{◌≡◌, ◌≢◌, ℕ, ◌<◌, List, [], ◌∷◌, ◌++◌, length, take, drop, get_or, suc, sym, ap, subst, ◌∙◌, append_assoc, append-nil, drop-cons}
 use Rattle.std.proofs.lemmas.List.{take-append-drop}
-use Rattle.std.specs.List.{AllByRecursion}
-use Rattle.forest_model.specs.declared.line.Line.{Line}
-use Rattle.play_run.specs.Plain.{plain_answer, plain_told}
-use Rattle.play_run.specs.Script.{IsTaken, IsText, IsBad, ended, replies, reply_line, HasSaid}
-use Rattle.play_run.specs.Progress.{HasRun, HasTaken, HasHeard, Stops, StopsText, StopsAtBad, StopsAmong}
+use Rattle.play_run.specs.Script.{IsText, ended}
+use Rattle.play_run.specs.Progress.{HasRun, HasTaken, HasHeard, Stops, StopsText, StopsAmong}
 use Rattle.play_run.specs.declared.plain.PlainStore.{PlainStore}
 use Rattle.play_run.specs.declared.player.Ended.{Ended}
 use Rattle.play_run.specs.declared.player.Ended.TheVariants.{BadLine, NoMemory, HostFault, SourceFault, AtEnd}

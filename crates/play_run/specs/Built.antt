@@ -1,5 +1,5 @@
 -- The lines of the first path, as a test.
-use Rattle.std.specs.Prelude.{ℕ, Bool, true, false, ◌&&◌, not, ◌==◌, List, length, nat_le}
+use Rattle.std.specs.Prelude.{Bool, true, false, ◌&&◌, not, ◌==◌, length, nat_le}
 use Rattle.forest_model.specs.Limits.{is_wrong_key}
 use Rattle.forest_model.specs.declared.line.Line.{Line}
 use Rattle.forest_model.specs.declared.line.Verb.{Verb}

@@ -1,4 +1,4 @@
-use Rattle.std.proofs.Common.{ap, ◌∙◌, ◌++◌, ◌+◌, List, ℕ}
+use Rattle.std.proofs.Common.{ap, ◌∙◌, ◌++◌, ◌+◌}
 use Rattle.play_run.specs.Script.{bad_line}
 use Rattle.play_run.specs.Play.{source_fault}
 use Rattle.play_run.proofs.Ends.{played_all, played_fault, played_bad, played_some}
