@@ -29,6 +29,6 @@ pub(crate) fn play_in_memory<S: Source>(
         → Takes (S.rest source.old) (S.rest source.new) (λ taken. RunsPrefix taken (memory_disk p.host).said)) }
     ensures statuses { IfOk result (λ p. p.status ≤ 5) }
 {
-    let host = MemoryHost::empty(alloc)?;
+    let host = MemoryHost::formatted(alloc)?;
     Ok(play(alloc, words, source, host))
 }

@@ -10,7 +10,7 @@ pub(crate) const HOST_FAULT: u8 = 4;
 pub(crate) const NO_MEMORY: u8 = 5;
 
 /// The status with which the program ends after a run: whether what was said is written, and whether the
-/// host in memory has failed, which comes for want of memory alone.
+/// host in memory has failed for want of memory.
 pub(crate) fn status_at_end(status: u8, written: bool, short: bool) -> u8
     ensures passed { IsTrue written → status ≢ 4 → result ≡ status }
     ensures host { status ≡ 4 → short ≡ false → result ≡ 4 }

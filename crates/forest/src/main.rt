@@ -50,5 +50,5 @@ fn tell(rt: &(impl Print + Eprint), played: Played<MemoryHost>) -> u8
     if status == WORDS_REFUSED {
         let _unheard = rt.eprint(USAGE);
     }
-    status_at_end(status, written, host.faults() != 0)
+    status_at_end(status, written, host.short() != 0)
 }

@@ -4,3 +4,4 @@ pub mod Kept
 pub mod Memory
 pub mod Pending
 pub mod Since
+pub mod Formatted

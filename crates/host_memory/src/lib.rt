@@ -5,6 +5,7 @@ mod blocks;
 mod change;
 mod faults;
 mod file;
+mod formatted;
 mod fresh;
 mod memory_host;
 mod pick;

@@ -1,9 +1,9 @@
-ghost use Rattle.std.specs.Prelude.{◌≢◌, ◌<◌, ◌-◌, ◌^◌, slice_get, slice_set, option_copied, OnOk, OnErr, ◌≡◌, ◌≤◌, true, ℕ, [], unwrap_or, IfOk};
+ghost use Rattle.std.specs.Prelude.{◌≢◌, ◌<◌, ◌-◌, ◌^◌, slice_get, slice_set, option_copied, OnOk, OnErr, ◌≡◌, ◌≤◌, ◌∷◌, true, ℕ, [], unwrap_or, IfOk};
 ghost use Rattle.host_memory.specs.Faults.{listed_of};
 
 use crate::faults::Faults;
 use crate::state::State;
-use crate::{MemoryFresh, MemoryView, Pick};
+use crate::{MemoryFresh, MemoryView, Pick, formatted};
 use block_host::{Block, Failed, Fresh, Host, Settled};
 use ghost_past::Past;
 use std::alloc::{AllocError, Global};
@@ -23,7 +23,9 @@ pub struct MemoryHost {
 
 impl MemoryHost {
     ghost use Rattle.block_host.specs.Disk.{Image};
-    ghost use Rattle.block_host.specs.Sealed.{zero_block};
+    ghost use Rattle.block_host.specs.Sealed.{IsSealed, zero_block};
+    ghost use Rattle.block_host.specs.declared.block.Block.{Block};
+    ghost use Rattle.host_memory.specs.Formatted.{first_slot, first_header};
     ghost use Rattle.host_memory.specs.Pending.{picked};
     ghost use Rattle.host_memory.specs.Memory.{memory_disk, memory_faults, memory_short, memory_file, memory_plan, Untouched};
 
@@ -34,6 +36,7 @@ impl MemoryHost {
         ensures moment { IfOk result (λ host. (memory_disk host).moment ≡ 0) }
         ensures said { IfOk result (λ host. (memory_disk host).said ≡ []) }
         ensures faults { IfOk result (λ host. memory_faults host ≡ 0) }
+        ensures short { IfOk result (λ host. memory_short host ≡ 0) }
     {
         Ok(MemoryHost {
             alloc,
@@ -44,6 +47,23 @@ impl MemoryHost {
             views: None,
             fresh: None,
         })
+    }
+
+    /// A host with a new store: the meta file, whose slot 0 names revision 1 in generation 1 and whose slot 1 is
+    /// zeros, and file 1 with the header of commit 0. Nothing is pending, nothing was said and nothing has failed.
+    pub fn formatted(alloc: Global) -> Result<MemoryHost, AllocError>
+        ensures meta { IfOk result (λ host. (slot : Block) × IsSealed 0 0 5 first_slot slot × ((memory_disk host).files 0 ≡ slot ∷ zero_block ∷ [])) }
+        ensures file { IfOk result (λ host. (header : Block) × IsSealed 1 0 4 first_header header × ((memory_disk host).files 1 ≡ header ∷ [])) }
+        ensures others { IfOk result (λ host. (file : ℕ) → 1 < file → (memory_disk host).files file ≡ []) }
+        ensures settled { IfOk result (λ host. (image : Image) → (memory_disk host).may_leave image → image ≡ (memory_disk host).files) }
+        ensures moment { IfOk result (λ host. (memory_disk host).moment ≡ 0) }
+        ensures said { IfOk result (λ host. (memory_disk host).said ≡ []) }
+        ensures faults { IfOk result (λ host. (memory_faults host ≡ 0) × (memory_short host ≡ 0)) }
+    {
+        let mut host = MemoryHost::empty(alloc)?;
+        host.state.put(alloc, 0, &formatted::slot())?;
+        host.state.append(alloc, 1, &[formatted::header()])?;
+        Ok(host.reopen(Pick::Written))
     }
 
     /// The bytes said.

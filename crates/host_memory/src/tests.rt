@@ -152,3 +152,26 @@ fn listed_calls_fail(rt: HostRuntime) -> Result<(), Fail> {
     assert!(rt; left.block(1, 0) == Some(&Block::zeros()));
     Ok(())
 }
+
+#[test]
+fn a_new_store_has_its_slot_and_its_header(rt: HostRuntime) -> Result<(), Fail> {
+    let mut host = MemoryHost::formatted(rt.alloc())?;
+    let mut block = Block::zeros();
+    // the first 8 bytes of SHA-256 of the bytes before them, computed by another program
+    host.read(0, 0, &mut block)?;
+    assert_eq!(rt;
+        block.bytes[4088..],
+        [54, 155, 131, 222, 130, 118, 174, 188]
+    );
+    host.read(1, 0, &mut block)?;
+    assert_eq!(rt;
+        &block.bytes[4088..],
+        [165, 43, 72, 45, 100, 190, 186, 132].as_slice()
+    );
+    assert_eq!(rt; &block.bytes[80..88], b"\x07default".as_slice());
+    assert_eq!(rt; shape(&mut host, 0)?, (2, false));
+    assert_eq!(rt; host.size(1), Ok(1));
+    assert_eq!(rt; host.next_file(1), Ok(None));
+    assert_eq!(rt; host.said(), b"".as_slice());
+    Ok(())
+}
