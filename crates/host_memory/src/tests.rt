@@ -160,8 +160,8 @@ fn a_new_store_has_its_slot_and_its_header(rt: HostRuntime) -> Result<(), Fail> 
     // the first 8 bytes of SHA-256 of the bytes before them, computed by another program
     host.read(0, 0, &mut block)?;
     assert_eq!(rt;
-        block.bytes[4088..],
-        [54, 155, 131, 222, 130, 118, 174, 188]
+        &block.bytes[4088..],
+        [54, 155, 131, 222, 130, 118, 174, 188].as_slice()
     );
     host.read(1, 0, &mut block)?;
     assert_eq!(rt;
