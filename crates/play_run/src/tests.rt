@@ -86,7 +86,7 @@ fn scripts_and_what_is_said(rt: HostRuntime) -> Result<(), Fail> {
 
 #[test]
 fn near_misses_are_bad_lines(rt: HostRuntime) -> Result<(), Fail> {
-    let table: [&[u8]; 18] = [
+    let table: [&[u8]; 22] = [
         b" 0 get a",
         b"0 get a ",
         b"0  get a",
@@ -101,6 +101,10 @@ fn near_misses_are_bad_lines(rt: HostRuntime) -> Result<(), Fail> {
         b"0 get a b",
         b"0 get %41",
         b"0 get -",
+        b"0 get %2D",
+        b"0 get a%20b",
+        b"0 set a -",
+        b"0 set a b%25",
         b"0 set a",
         b"0 commit now",
         b"0 get a\r",
