@@ -2,13 +2,15 @@
 use Rattle.std.specs.Prelude.{Bool, ◌≡◌, ◌⊎◌, ◌∷◌, ℕ, List, [], length}
 use Rattle.std.proofs.Common.{refl, inl, inr, arith, ⊎_elim}
 use Rattle.block_host.specs.declared.block.Block.{Block}
-use Rattle.block_host.specs.Disk.{Image, Disk, Lawful}
+use Rattle.block_host.specs.Disk.{Image, Disk, Lawful, risen}
 use Rattle.host_memory.specs.Pending.{FileState, Leaves, Noted}
 use Rattle.host_memory.specs.Faults.{is_due, listed_of}
 use Rattle.host_memory.specs.Held.{held}
 use Rattle.host_memory.specs.Since.{Since, Since-below, Since-earlier}
 use Rattle.host_memory.specs.declared.state.State.{State}
+use Rattle.host_memory.specs.declared.fresh.MemoryFresh.{MemoryFresh}
 use Rattle.host_memory.specs.declared.memory_host.MemoryHost.{MemoryHost}
+use Rattle.host_memory.specs.declared.view.MemoryView.{MemoryView}
 
 -- a crash in this state may leave this image
 abbrev pub MayLeave : State → Image → Type 0
@@ -41,6 +43,24 @@ memory_short host = host.own.short
 -- whether the host's next call that can fail is to fail
 abbrev pub memory_due : MemoryHost → Bool
 memory_due host = is_due host.own
+
+-- a call failed for want of memory
+abbrev pub HasRunShort : MemoryHost → MemoryHost → Type 0
+HasRunShort old new = memory_short new ≡ risen (memory_short old)
+
+-- whether the next call of a view, and of a fresh file, that can fail is to fail
+abbrev pub view_due : MemoryView → Bool
+view_due view = is_due view.own
+
+abbrev pub fresh_due : MemoryFresh → Bool
+fresh_due fresh = is_due fresh.own
+
+-- how many calls of a view, and of a fresh file, failed for want of memory
+abbrev pub view_short : MemoryView → ℕ
+view_short view = view.own.short
+
+abbrev pub fresh_short : MemoryFresh → ℕ
+fresh_short fresh = fresh.own.short
 
 -- what is known of a file: its blocks, and the changes that are pending
 abbrev pub memory_file : MemoryHost → ℕ → FileState

@@ -27,6 +27,12 @@ impl MemoryFresh {
 }
 
 impl Fresh for MemoryFresh {
+    ghost use Rattle.std.specs.Prelude.{◌≡◌, ◌≤◌, ◌++◌, ◌⊎◌, true, Some, IsTrue, IsErr, IfOk, IfErr, OnOk, OnErr, length};
+    ghost use Rattle.std.specs.Result.{is_err};
+    ghost use Rattle.block_host.specs.Disk.{risen};
+    ghost use Rattle.block_host.specs.Calls.{block_at, Written};
+    ghost use Rattle.host_memory.specs.Memory.{fresh_due, fresh_short};
+
     ghost tells = { true };
 
     ghost content = { λ fresh. fresh.blocks.items };
@@ -39,7 +45,16 @@ impl Fresh for MemoryFresh {
         self.blocks.len() as u64
     }
 
-    fn append(&mut self, blocks: &[Block]) -> Result<(), Failed> {
+    fn append(&mut self, blocks: &[Block]) -> Result<(), Failed>
+        ensures added { IsTrue true → OnOk result (⟦<MemoryFresh as block_host::Fresh>⟧.content self.new ≡ ⟦<MemoryFresh as block_host::Fresh>⟧.content self.old ++ blocks.now) }
+        ensures part { IsTrue true → Written (⟦<MemoryFresh as block_host::Fresh>⟧.file self.old) (length (⟦<MemoryFresh as block_host::Fresh>⟧.content self.old)) blocks.now (⟦<MemoryFresh as block_host::Fresh>⟧.content self.old) (⟦<MemoryFresh as block_host::Fresh>⟧.content self.new) }
+        ensures file { ⟦<MemoryFresh as block_host::Fresh>⟧.file self.new ≡ ⟦<MemoryFresh as block_host::Fresh>⟧.file self.old }
+        ensures counts { ⟦<MemoryFresh as block_host::Fresh>⟧.faults self.old ≤ ⟦<MemoryFresh as block_host::Fresh>⟧.faults self.new }
+        ensures failed { OnErr result (risen (⟦<MemoryFresh as block_host::Fresh>⟧.faults self.old) ≤ ⟦<MemoryFresh as block_host::Fresh>⟧.faults self.new) }
+        ensures untroubled { OnOk result (⟦<MemoryFresh as block_host::Fresh>⟧.faults self.new ≡ ⟦<MemoryFresh as block_host::Fresh>⟧.faults self.old) }
+        ensures due { IsTrue (fresh_due self.old) → IsErr result }
+        ensures cause { OnErr result (IsTrue (fresh_due self.old) ⊎ (fresh_short self.new ≡ risen (fresh_short self.old))) }
+    {
         self.own.admit()?;
         if self.blocks.extend_from_slice(blocks).is_err() {
             return Err(self.own.run_short());
@@ -47,7 +62,15 @@ impl Fresh for MemoryFresh {
         Ok(())
     }
 
-    fn read(&mut self, at: u64, out: &mut Block) -> Result<(), Failed> {
+    fn read(&mut self, at: u64, out: &mut Block) -> Result<(), Failed>
+        ensures given { IsTrue true → OnOk result (out.new ≡ block_at (⟦<MemoryFresh as block_host::Fresh>⟧.content self.old) at) }
+        ensures kept { IsTrue true → ⟦<MemoryFresh as block_host::Fresh>⟧.content self.new ≡ ⟦<MemoryFresh as block_host::Fresh>⟧.content self.old }
+        ensures file { ⟦<MemoryFresh as block_host::Fresh>⟧.file self.new ≡ ⟦<MemoryFresh as block_host::Fresh>⟧.file self.old }
+        ensures counts { ⟦<MemoryFresh as block_host::Fresh>⟧.faults self.old ≤ ⟦<MemoryFresh as block_host::Fresh>⟧.faults self.new }
+        ensures failed { OnErr result (risen (⟦<MemoryFresh as block_host::Fresh>⟧.faults self.old) ≤ ⟦<MemoryFresh as block_host::Fresh>⟧.faults self.new) }
+        ensures untroubled { OnOk result (⟦<MemoryFresh as block_host::Fresh>⟧.faults self.new ≡ ⟦<MemoryFresh as block_host::Fresh>⟧.faults self.old) }
+        ensures due { is_err result ≡ fresh_due self.old }
+    {
         self.own.admit()?;
         *out = match self.blocks.get(at as usize) {
             Some(block) => *block,
@@ -56,7 +79,14 @@ impl Fresh for MemoryFresh {
         Ok(())
     }
 
-    fn sync(self) -> Result<Settled, Self> {
+    fn sync(self) -> Result<Settled, Self>
+        ensures file { IfOk result (λ settled. settled.file ≡ ⟦<MemoryFresh as block_host::Fresh>⟧.file self) }
+        ensures settled { IsTrue true → IfOk result (λ settled. settled.blocks ≡ Some (⟦<MemoryFresh as block_host::Fresh>⟧.content self)) }
+        ensures same { IfErr result (λ back. ⟦<MemoryFresh as block_host::Fresh>⟧.file back ≡ ⟦<MemoryFresh as block_host::Fresh>⟧.file self) }
+        ensures kept { IsTrue true → IfErr result (λ back. ⟦<MemoryFresh as block_host::Fresh>⟧.content back ≡ ⟦<MemoryFresh as block_host::Fresh>⟧.content self) }
+        ensures failed { IfErr result (λ back. risen (⟦<MemoryFresh as block_host::Fresh>⟧.faults self) ≤ ⟦<MemoryFresh as block_host::Fresh>⟧.faults back) }
+        ensures due { is_err result ≡ fresh_due self }
+    {
         let mut fresh = self;
         match fresh.own.admit() {
             Ok(()) => {

@@ -185,7 +185,10 @@ impl Host for MemoryHost {
     type Fresh = MemoryFresh;
 
     ghost use Rattle.std.proofs.Common.{refl};
-    ghost use Rattle.host_memory.specs.Memory.{memory_disk, memory_faults, memory_lawful};
+    ghost use Rattle.std.specs.Prelude.{◌≡◌, ◌+◌, ◌-◌, ◌^◌, ◌<◌, ◌≤◌, ◌⊎◌, [], min, max, not, true, IsTrue, IsErr, IfOk, OnOk, OnErr, unwrap_or, length};
+    ghost use Rattle.block_host.specs.Disk.{Says, risen};
+    ghost use Rattle.block_host.specs.Calls.{Reads, Appends, Puts, Cuts, Becomes, Removes, Syncs, NextFile, block_at};
+    ghost use Rattle.host_memory.specs.Memory.{memory_disk, memory_faults, memory_due, memory_short, memory_lawful, HasRunShort, view_short, fresh_short};
 
     ghost tells = { true };
 
@@ -201,18 +204,47 @@ impl Host for MemoryHost {
 
     ghost fresh_files_tell = { λ _. refl };
 
-    fn size(&mut self, file: u64) -> Result<u64, Failed> {
+    fn size(&mut self, file: u64) -> Result<u64, Failed>
+        ensures told { IsTrue true → Reads (memory_disk self.old) (memory_disk self.new) }
+        ensures size { IsTrue true → IfOk result (λ size. size ≡ length ((memory_disk self.old).files file)) }
+        ensures clock { (memory_disk self.old).moment ≤ (memory_disk self.new).moment }
+        ensures counts { memory_faults self.old ≤ memory_faults self.new }
+        ensures failed { OnErr result (risen (memory_faults self.old) ≤ memory_faults self.new) }
+        ensures untroubled { OnOk result (memory_faults self.new ≡ memory_faults self.old) }
+        ensures greatest { self.new.greatest ≡ self.old.greatest }
+        ensures due { IsTrue (memory_due self.old) → IsErr result }
+        ensures cause { OnErr result (IsTrue (memory_due self.old) ⊎ HasRunShort self.old self.new) }
+    {
         self.own.admit()?;
         Ok(self.state.size(file))
     }
 
-    fn read(&mut self, file: u64, at: u64, out: &mut Block) -> Result<(), Failed> {
+    fn read(&mut self, file: u64, at: u64, out: &mut Block) -> Result<(), Failed>
+        ensures told { IsTrue true → Reads (memory_disk self.old) (memory_disk self.new) }
+        ensures given { IsTrue true → OnOk result (out.new ≡ block_at ((memory_disk self.old).files file) at) }
+        ensures clock { (memory_disk self.old).moment ≤ (memory_disk self.new).moment }
+        ensures counts { memory_faults self.old ≤ memory_faults self.new }
+        ensures failed { OnErr result (risen (memory_faults self.old) ≤ memory_faults self.new) }
+        ensures untroubled { OnOk result (memory_faults self.new ≡ memory_faults self.old) }
+        ensures greatest { self.new.greatest ≡ self.old.greatest }
+        ensures due { IsTrue (memory_due self.old) → IsErr result }
+        ensures cause { OnErr result (IsTrue (memory_due self.old) ⊎ HasRunShort self.old self.new) }
+    {
         self.own.admit()?;
         *out = self.state.at(file, at);
         Ok(())
     }
 
-    fn append(&mut self, file: u64, blocks: &[Block]) -> Result<(), Failed> {
+    fn append(&mut self, file: u64, blocks: &[Block]) -> Result<(), Failed>
+        ensures told { IsTrue true → Appends file blocks.now result (memory_disk self.old) (memory_disk self.new) }
+        ensures clock { (memory_disk self.old).moment ≤ (memory_disk self.new).moment }
+        ensures counts { memory_faults self.old ≤ memory_faults self.new }
+        ensures failed { OnErr result (risen (memory_faults self.old) ≤ memory_faults self.new) }
+        ensures untroubled { OnOk result (memory_faults self.new ≡ memory_faults self.old) }
+        ensures greatest { self.new.greatest ≡ self.old.greatest }
+        ensures due { IsTrue (memory_due self.old) → IsErr result }
+        ensures cause { OnErr result (IsTrue (memory_due self.old) ⊎ HasRunShort self.old self.new) }
+    {
         self.own.admit()?;
         let past = self.past.and(&self.state);
         if self.state.append(self.alloc, file, blocks).is_err() {
@@ -222,7 +254,17 @@ impl Host for MemoryHost {
         Ok(())
     }
 
-    fn put(&mut self, slot: u64, block: &Block) -> Result<(), Failed> {
+    fn put(&mut self, slot: u64, block: &Block) -> Result<(), Failed>
+        requires { slot < 2 }
+        ensures told { IsTrue true → Puts slot block.now result (memory_disk self.old) (memory_disk self.new) }
+        ensures clock { (memory_disk self.old).moment ≤ (memory_disk self.new).moment }
+        ensures counts { memory_faults self.old ≤ memory_faults self.new }
+        ensures failed { OnErr result (risen (memory_faults self.old) ≤ memory_faults self.new) }
+        ensures untroubled { OnOk result (memory_faults self.new ≡ memory_faults self.old) }
+        ensures greatest { self.new.greatest ≡ self.old.greatest }
+        ensures due { IsTrue (memory_due self.old) → IsErr result }
+        ensures cause { OnErr result (IsTrue (memory_due self.old) ⊎ HasRunShort self.old self.new) }
+    {
         self.own.admit()?;
         let past = self.past.and(&self.state);
         if self.state.put(self.alloc, slot, block).is_err() {
@@ -232,7 +274,16 @@ impl Host for MemoryHost {
         Ok(())
     }
 
-    fn cut(&mut self, file: u64, blocks: u64) -> Result<(), Failed> {
+    fn cut(&mut self, file: u64, blocks: u64) -> Result<(), Failed>
+        ensures told { IsTrue true → Cuts file blocks result (memory_disk self.old) (memory_disk self.new) }
+        ensures clock { (memory_disk self.old).moment ≤ (memory_disk self.new).moment }
+        ensures counts { memory_faults self.old ≤ memory_faults self.new }
+        ensures failed { OnErr result (risen (memory_faults self.old) ≤ memory_faults self.new) }
+        ensures untroubled { OnOk result (memory_faults self.new ≡ memory_faults self.old) }
+        ensures greatest { self.new.greatest ≡ self.old.greatest }
+        ensures due { IsTrue (memory_due self.old) → IsErr result }
+        ensures cause { OnErr result (IsTrue (memory_due self.old) ⊎ HasRunShort self.old self.new) }
+    {
         self.own.admit()?;
         let past = self.past.and(&self.state);
         if self.state.cut(self.alloc, file, blocks).is_err() {
@@ -242,19 +293,44 @@ impl Host for MemoryHost {
         Ok(())
     }
 
-    fn sync(&mut self, file: u64) -> Result<(), Failed> {
+    fn sync(&mut self, file: u64) -> Result<(), Failed>
+        ensures told { IsTrue true → Syncs file result (memory_disk self.old) (memory_disk self.new) }
+        ensures clock { (memory_disk self.old).moment ≤ (memory_disk self.new).moment }
+        ensures counts { memory_faults self.old ≤ memory_faults self.new }
+        ensures failed { OnErr result (risen (memory_faults self.old) ≤ memory_faults self.new) }
+        ensures untroubled { OnOk result (memory_faults self.new ≡ memory_faults self.old) }
+        ensures greatest { self.new.greatest ≡ self.old.greatest }
+        ensures due { IsTrue (memory_due self.old) → IsErr result }
+        ensures cause { OnErr result (IsTrue (memory_due self.old) ⊎ HasRunShort self.old self.new) }
+    {
         self.own.admit()?;
         self.past = self.past.and(&self.state);
         self.state.sync(file);
         Ok(())
     }
 
-    fn next_file(&mut self, after: u64) -> Result<Option<u64>, Failed> {
+    fn next_file(&mut self, after: u64) -> Result<Option<u64>, Failed>
+        ensures told { IsTrue true → Reads (memory_disk self.old) (memory_disk self.new) }
+        ensures next { IsTrue true → IfOk result (NextFile after (memory_disk self.old).files) }
+        ensures clock { (memory_disk self.old).moment ≤ (memory_disk self.new).moment }
+        ensures counts { memory_faults self.old ≤ memory_faults self.new }
+        ensures failed { OnErr result (risen (memory_faults self.old) ≤ memory_faults self.new) }
+        ensures untroubled { OnOk result (memory_faults self.new ≡ memory_faults self.old) }
+        ensures greatest { self.new.greatest ≡ self.old.greatest }
+        ensures due { IsTrue (memory_due self.old) → IsErr result }
+        ensures cause { OnErr result (IsTrue (memory_due self.old) ⊎ HasRunShort self.old self.new) }
+    {
         self.own.admit()?;
         Ok(self.state.next(after))
     }
 
-    fn remove(&mut self, file: u64) -> bool {
+    fn remove(&mut self, file: u64) -> bool
+        ensures told { IsTrue true → Removes file result (memory_disk self.old) (memory_disk self.new) }
+        ensures clock { (memory_disk self.old).moment ≤ (memory_disk self.new).moment }
+        ensures untroubled { memory_faults self.new ≡ memory_faults self.old }
+        ensures greatest { self.new.greatest ≡ self.old.greatest }
+        ensures due { result ≡ not (memory_due self.old) }
+    {
         if self.own.admit_quietly() {
             self.past = self.past.and(&self.state);
             self.state.remove(file);
@@ -264,7 +340,18 @@ impl Host for MemoryHost {
         }
     }
 
-    fn view(&mut self, file: u64) -> Result<MemoryView, Failed> {
+    fn view(&mut self, file: u64) -> Result<MemoryView, Failed>
+        ensures told { IsTrue true → Reads (memory_disk self.old) (memory_disk self.new) }
+        ensures content { IsTrue true → IfOk result (λ view. ⟦<MemoryView as block_host::View>⟧.content view ≡ (memory_disk self.old).files file) }
+        ensures made { IfOk result (λ view. ⟦<MemoryView as block_host::View>⟧.faults view ≡ 0) }
+        ensures clock { (memory_disk self.old).moment ≤ (memory_disk self.new).moment }
+        ensures counts { memory_faults self.old ≤ memory_faults self.new }
+        ensures failed { OnErr result (risen (memory_faults self.old) ≤ memory_faults self.new) }
+        ensures untroubled { OnOk result (memory_faults self.new ≡ memory_faults self.old) }
+        ensures greatest { self.new.greatest ≡ self.old.greatest }
+        ensures due { IsTrue (memory_due self.old) → IsErr result }
+        ensures cause { OnErr result (IsTrue (memory_due self.old) ⊎ HasRunShort self.old self.new) }
+    {
         self.own.admit()?;
         match self.view_of(file) {
             Ok(view) => Ok(view),
@@ -272,7 +359,19 @@ impl Host for MemoryHost {
         }
     }
 
-    fn renew(&mut self, file: u64, view: &mut MemoryView) -> Result<(), Failed> {
+    fn renew(&mut self, file: u64, view: &mut MemoryView) -> Result<(), Failed>
+        ensures told { IsTrue true → Reads (memory_disk self.old) (memory_disk self.new) }
+        ensures content { IsTrue true → OnOk result (⟦<MemoryView as block_host::View>⟧.content view.new ≡ (memory_disk self.old).files file) }
+        ensures kept { IsTrue true → OnErr result (⟦<MemoryView as block_host::View>⟧.content view.new ≡ ⟦<MemoryView as block_host::View>⟧.content view.old) }
+        ensures view_count { ⟦<MemoryView as block_host::View>⟧.faults view.new ≡ ⟦<MemoryView as block_host::View>⟧.faults view.old }
+        ensures clock { (memory_disk self.old).moment ≤ (memory_disk self.new).moment }
+        ensures counts { memory_faults self.old ≤ memory_faults self.new }
+        ensures failed { OnErr result (risen (memory_faults self.old) ≤ memory_faults self.new) }
+        ensures untroubled { OnOk result (memory_faults self.new ≡ memory_faults self.old) }
+        ensures greatest { self.new.greatest ≡ self.old.greatest }
+        ensures due { IsTrue (memory_due self.old) → IsErr result }
+        ensures cause { OnErr result (IsTrue (memory_due self.old) ⊎ HasRunShort self.old self.new) }
+    {
         self.own.admit()?;
         match self.state.share(self.alloc, file) {
             Ok(blocks) => {
@@ -283,16 +382,44 @@ impl Host for MemoryHost {
         }
     }
 
-    fn absorb_view(&mut self, view: MemoryView) {
+    fn absorb_view(&mut self, view: MemoryView)
+        ensures told { IsTrue true → Reads (memory_disk self.old) (memory_disk self.new) }
+        ensures clock { (memory_disk self.old).moment ≤ (memory_disk self.new).moment }
+        ensures counts { memory_faults self.old ≤ memory_faults self.new }
+        ensures failed { 1 ≤ ⟦<MemoryView as block_host::View>⟧.faults view → risen (memory_faults self.old) ≤ memory_faults self.new }
+        ensures untroubled { ⟦<MemoryView as block_host::View>⟧.faults view ≡ 0 → memory_faults self.new ≡ memory_faults self.old }
+        ensures greatest { self.new.greatest ≡ self.old.greatest }
+        ensures short { memory_short self.new ≡ min (memory_short self.old + view_short view) (2 ^ 64 - 1) }
+    {
         self.own.absorb(view.own());
     }
 
-    fn absorb_fresh(&mut self, fresh: MemoryFresh) {
+    fn absorb_fresh(&mut self, fresh: MemoryFresh)
+        ensures told { IsTrue true → Reads (memory_disk self.old) (memory_disk self.new) }
+        ensures clock { (memory_disk self.old).moment ≤ (memory_disk self.new).moment }
+        ensures counts { memory_faults self.old ≤ memory_faults self.new }
+        ensures failed { 1 ≤ ⟦<MemoryFresh as block_host::Fresh>⟧.faults fresh → risen (memory_faults self.old) ≤ memory_faults self.new }
+        ensures untroubled { ⟦<MemoryFresh as block_host::Fresh>⟧.faults fresh ≡ 0 → memory_faults self.new ≡ memory_faults self.old }
+        ensures greatest { IsTrue true → self.new.greatest ≡ max (self.old.greatest) (length (⟦<MemoryFresh as block_host::Fresh>⟧.content fresh)) }
+        ensures short { memory_short self.new ≡ min (memory_short self.old + fresh_short fresh) (2 ^ 64 - 1) }
+    {
         self.own.absorb(fresh.own());
         self.greatest = self.greatest.max(fresh.size());
     }
 
-    fn fresh(&mut self, file: u64) -> Result<MemoryFresh, Failed> {
+    fn fresh(&mut self, file: u64) -> Result<MemoryFresh, Failed>
+        ensures told { IsTrue true → Reads (memory_disk self.old) (memory_disk self.new) }
+        ensures empty { IsTrue true → IfOk result (λ fresh. ⟦<MemoryFresh as block_host::Fresh>⟧.content fresh ≡ []) }
+        ensures number { IfOk result (λ fresh. ⟦<MemoryFresh as block_host::Fresh>⟧.file fresh ≡ file) }
+        ensures made { IfOk result (λ fresh. ⟦<MemoryFresh as block_host::Fresh>⟧.faults fresh ≡ 0) }
+        ensures clock { (memory_disk self.old).moment ≤ (memory_disk self.new).moment }
+        ensures counts { memory_faults self.old ≤ memory_faults self.new }
+        ensures failed { OnErr result (risen (memory_faults self.old) ≤ memory_faults self.new) }
+        ensures untroubled { OnOk result (memory_faults self.new ≡ memory_faults self.old) }
+        ensures greatest { self.new.greatest ≡ self.old.greatest }
+        ensures due { IsTrue (memory_due self.old) → IsErr result }
+        ensures cause { OnErr result (IsTrue (memory_due self.old) ⊎ HasRunShort self.old self.new) }
+    {
         self.own.admit()?;
         match self.fresh_of(file) {
             Ok(fresh) => Ok(fresh),
@@ -300,7 +427,16 @@ impl Host for MemoryHost {
         }
     }
 
-    fn adopt(&mut self, settled: Settled) -> Result<(), Failed> {
+    fn adopt(&mut self, settled: Settled) -> Result<(), Failed>
+        ensures told { IsTrue true → Becomes settled.file (unwrap_or settled.blocks []) result (memory_disk self.old) (memory_disk self.new) }
+        ensures clock { (memory_disk self.old).moment ≤ (memory_disk self.new).moment }
+        ensures counts { memory_faults self.old ≤ memory_faults self.new }
+        ensures failed { OnErr result (risen (memory_faults self.old) ≤ memory_faults self.new) }
+        ensures untroubled { OnOk result (memory_faults self.new ≡ memory_faults self.old) }
+        ensures greatest { self.new.greatest ≡ self.old.greatest }
+        ensures due { IsTrue (memory_due self.old) → IsErr result }
+        ensures cause { OnErr result (IsTrue (memory_due self.old) ⊎ HasRunShort self.old self.new) }
+    {
         self.own.admit()?;
         let past = self.past.and(&self.state);
         let file = settled.file();
@@ -312,7 +448,16 @@ impl Host for MemoryHost {
         Ok(())
     }
 
-    fn say(&mut self, bytes: &[u8]) -> Result<(), Failed> {
+    fn say(&mut self, bytes: &[u8]) -> Result<(), Failed>
+        ensures told { IsTrue true → Says bytes.now result (memory_disk self.old) (memory_disk self.new) }
+        ensures clock { (memory_disk self.old).moment ≤ (memory_disk self.new).moment }
+        ensures counts { memory_faults self.old ≤ memory_faults self.new }
+        ensures failed { OnErr result (risen (memory_faults self.old) ≤ memory_faults self.new) }
+        ensures untroubled { OnOk result (memory_faults self.new ≡ memory_faults self.old) }
+        ensures greatest { self.new.greatest ≡ self.old.greatest }
+        ensures due { IsTrue (memory_due self.old) → IsErr result }
+        ensures cause { OnErr result (IsTrue (memory_due self.old) ⊎ HasRunShort self.old self.new) }
+    {
         self.own.admit()?;
         let noted = self.past.and(&self.state);
         if self.state.say(bytes).is_err() {

@@ -34,6 +34,12 @@ impl MemoryView {
 }
 
 impl View for MemoryView {
+    ghost use Rattle.std.specs.Prelude.{◌≡◌, ◌≤◌, true, IsTrue, OnOk, OnErr};
+    ghost use Rattle.std.specs.Result.{is_err};
+    ghost use Rattle.block_host.specs.Disk.{risen};
+    ghost use Rattle.block_host.specs.Calls.{block_at};
+    ghost use Rattle.host_memory.specs.Memory.{view_due};
+
     ghost tells = { true };
 
     ghost content = { λ view. view.blocks };
@@ -44,7 +50,14 @@ impl View for MemoryView {
         self.blocks.len()
     }
 
-    fn read(&mut self, at: u64, out: &mut Block) -> Result<(), Failed> {
+    fn read(&mut self, at: u64, out: &mut Block) -> Result<(), Failed>
+        ensures given { IsTrue true → OnOk result (out.new ≡ block_at (⟦<MemoryView as block_host::View>⟧.content self.old) at) }
+        ensures kept { IsTrue true → ⟦<MemoryView as block_host::View>⟧.content self.new ≡ ⟦<MemoryView as block_host::View>⟧.content self.old }
+        ensures counts { ⟦<MemoryView as block_host::View>⟧.faults self.old ≤ ⟦<MemoryView as block_host::View>⟧.faults self.new }
+        ensures failed { OnErr result (risen (⟦<MemoryView as block_host::View>⟧.faults self.old) ≤ ⟦<MemoryView as block_host::View>⟧.faults self.new) }
+        ensures untroubled { OnOk result (⟦<MemoryView as block_host::View>⟧.faults self.new ≡ ⟦<MemoryView as block_host::View>⟧.faults self.old) }
+        ensures due { is_err result ≡ view_due self.old }
+    {
         self.own.admit()?;
         *out = self.blocks.at(at);
         Ok(())
