@@ -1,2 +1,6 @@
 pub mod Moments
+mod Padding
 mod Room
+mod Front
+pub mod Back
+mod InTurn

@@ -1,5 +1,7 @@
 -- What files hold, what a crash may leave of them, and what was said.
-use Rattle.std.specs.Prelude.{◌≡◌, ◌⊎◌, ◌+◌, ◌-◌, ◌^◌, ◌≤◌, min, ℕ, List, ◌++◌, length, take, Result, OnOk, OnErr}
+use Rattle.std.specs.Prelude.{◌≡◌, ◌⊎◌, ◌+◌, ◌-◌, ◌^◌, ◌≤◌, min, ℕ, List, [], ◌++◌, length, take, Result, OnOk, OnErr}
+use Rattle.std.specs.Prelude.{Bool, false, cond, IsTrue}
+use Rattle.std.proofs.Common.{subst}
 use Rattle.block_host.specs.declared.block.Block.{Block}
 use Rattle.block_host.specs.declared.failed.Failed.{Failed}
 
@@ -18,6 +20,14 @@ pub record Disk : Type 1 where
   pub left_since : ℕ → Image → List ℕ → Type 0
   -- the bytes said
   pub said : List ℕ
+
+-- the disk of a host that tells nothing of its content
+abbrev pub untold : Disk
+untold = record { files = λ _. []; may_leave = λ _. Unit {0}; moment = 0; left_since = λ _ _ _. Unit {0}; said = [] }
+
+-- it owes nothing on content
+pub not_told : {A : Type 0} → IsTrue false → A
+not_told {A} told = subst (λ (b : Bool). cond b A (Unit {0})) told tt
 
 -- what is true of a disk at every moment
 pub record Lawful (disk : Disk) : Type 0 where

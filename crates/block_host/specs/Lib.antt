@@ -1,3 +1,7 @@
+pub mod Calls
 pub mod Disk
 pub mod Moments
+pub mod Order
+pub mod Sealed
+pub mod Settled
 pub mod Supply

@@ -6,13 +6,24 @@
 mod block;
 mod failed;
 mod fresh;
+mod gate;
 mod host;
+mod order;
+mod sealing;
+mod settled;
 mod source;
 mod view;
 
 pub use block::Block;
 pub use failed::Failed;
 pub use fresh::Fresh;
+pub use gate::Gate;
 pub use host::Host;
+pub use order::append_in_order;
+pub use sealing::{seal, unseal};
+pub use settled::Settled;
 pub use source::{MemorySource, Source, StdSource};
 pub use view::View;
+
+#[cfg(test)]
+mod untold;

@@ -32,3 +32,12 @@ impl<T> Past<T> {
         Past { of: PhantomData }
     }
 }
+
+impl<A, B> Past<(A, B)> {
+    /// This history, and these two as the newest.
+    pub fn and_pair(&self, first: &A, second: &B) -> Past<(A, B)>
+        ensures { result.items ≡ (first.now, second.now) ∷ self.now.items }
+    {
+        Past { of: PhantomData }
+    }
+}

@@ -1,1 +1,5 @@
-mod Spoken
+mod Picks
+mod Least
+mod Steps
+mod Told
+mod Crashes

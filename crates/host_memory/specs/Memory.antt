@@ -1,30 +1,96 @@
 -- What a host in memory tells.
-use Rattle.std.specs.Prelude.{◌≡◌, ◌⊎◌, ℕ, List, [], length, Vec}
-use Rattle.std.specs.declared.alloc.Global.{Global}
+use Rattle.std.specs.Prelude.{Bool, ◌≡◌, ◌⊎◌, ◌∷◌, ℕ, List, [], length}
 use Rattle.std.proofs.Common.{refl, inl, inr, arith, ⊎_elim}
-use Rattle.block_host.specs.Disk.{Image, Disk, Lawful}
+use Rattle.block_host.specs.declared.block.Block.{Block}
+use Rattle.block_host.specs.Disk.{Image, Disk, Lawful, risen}
+use Rattle.host_memory.specs.Pending.{FileState, Leaves, Noted}
+use Rattle.host_memory.specs.Faults.{is_due, listed_of}
+use Rattle.host_memory.specs.Held.{held}
 use Rattle.host_memory.specs.Since.{Since, Since-below, Since-earlier}
+use Rattle.host_memory.specs.declared.state.State.{State}
+use Rattle.host_memory.specs.declared.fresh.MemoryFresh.{MemoryFresh}
 use Rattle.host_memory.specs.declared.memory_host.MemoryHost.{MemoryHost}
+use Rattle.host_memory.specs.declared.view.MemoryView.{MemoryView}
 
--- no file, with these bytes said
-abbrev pub Shows : Vec ℕ Global → Image → List ℕ → Type 0
-Shows state image said = (image ≡ (λ _. [])) × (said ≡ state.items)
+-- a crash in this state may leave this image
+abbrev pub MayLeave : State → Image → Type 0
+MayLeave state image = (file : ℕ) → Leaves file (held state file).blocks (held state file).steps (image file)
 
-abbrev pub memory_disk : MemoryHost → Disk
-memory_disk host = record {
-  files = λ _. [];
-  may_leave = λ image. image ≡ (λ _. []);
-  moment = length host.past.items;
-  left_since = λ t image said. Shows host.said image said ⊎ Since Shows host.past.items t image said;
-  said = host.said.items;
+-- the same, with these bytes said
+abbrev pub Shows : State → Image → List ℕ → Type 0
+Shows state image said = MayLeave state image × (said ≡ state.said.items)
+
+-- the disk of a state, after these states, the newest first
+abbrev pub disk_of : State → List State → Disk
+disk_of state past = record {
+  files = λ file. (held state file).blocks;
+  may_leave = MayLeave state;
+  moment = length past;
+  left_since = λ t image said. Shows state image said ⊎ Since Shows past t image said;
+  said = state.said.items;
 }
 
+abbrev pub memory_disk : MemoryHost → Disk
+memory_disk host = disk_of host.state host.past.items
+
 abbrev pub memory_faults : MemoryHost → ℕ
-memory_faults host = host.faults
+memory_faults host = host.own.count
+
+-- how many calls failed for want of memory
+abbrev pub memory_short : MemoryHost → ℕ
+memory_short host = host.own.short
+
+-- whether the host's next call that can fail is to fail
+abbrev pub memory_due : MemoryHost → Bool
+memory_due host = is_due host.own
+
+-- a call failed for want of memory
+abbrev pub HasRunShort : MemoryHost → MemoryHost → Type 0
+HasRunShort old new = memory_short new ≡ risen (memory_short old)
+
+-- whether the next call of a view, and of a fresh file, that can fail is to fail
+abbrev pub view_due : MemoryView → Bool
+view_due view = is_due view.own
+
+abbrev pub fresh_due : MemoryFresh → Bool
+fresh_due fresh = is_due fresh.own
+
+-- how many calls of a view, and of a fresh file, failed for want of memory
+abbrev pub view_short : MemoryView → ℕ
+view_short view = view.own.short
+
+abbrev pub fresh_short : MemoryFresh → ℕ
+fresh_short fresh = fresh.own.short
+
+-- what is known of a file: its blocks, and the changes that are pending
+abbrev pub memory_file : MemoryHost → ℕ → FileState
+memory_file host = held host.state
+
+-- how many of the host's calls that can fail were made; which of them, of a view's and of a fresh file's are to fail; and after how many each fails
+pub record Plan : Type 0 where
+  pub calls : ℕ
+  pub host : List ℕ
+  pub views : List ℕ
+  pub fresh : List ℕ
+  pub stop : ℕ
+
+abbrev pub memory_plan : MemoryHost → Plan
+memory_plan host = record { calls = host.own.calls; host = listed_of host.own.listed; views = listed_of host.views; fresh = listed_of host.fresh; stop = host.own.stop }
+
+-- the files, what a crash leaves, the bytes said and the counts stay
+pub record Untouched (old new : MemoryHost) : Type 0 where
+  pub state : new.state ≡ old.state
+  pub past : new.past.items ≡ old.past.items
+  pub faults : memory_faults new ≡ memory_faults old
+  pub short : memory_short new ≡ memory_short old
+
+pub Leaves-present : (file : ℕ) (blocks : List Block) (steps : List Noted) → Leaves file blocks steps blocks
+Leaves-present file blocks [] = refl
+Leaves-present file blocks (noted ∷ steps) = inl refl
 
 pub memory_lawful : (host : MemoryHost) → Lawful (memory_disk host)
 memory_lawful host = record {
-  present = refl;
+  present = λ file. Leaves-present file (held host.state file).blocks (held host.state file).steps;
   counts_now = λ t image le now. inl (now, refl);
   only_now = λ image said left. ⊎_elim (λ here. here) (λ had. absurd (let below = Since-below Shows host.past.items (length host.past.items) image said had in omega (arith, below))) left;
   earlier = λ t u image said le left. ⊎_elim (λ here. inl here) (λ had. inr (Since-earlier Shows host.past.items t u image said le had)) left;

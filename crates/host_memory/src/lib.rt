@@ -1,10 +1,21 @@
 //! A host in memory, for tests. It tells all its content.
 #![tactic(auto)]
 
+mod blocks;
+mod change;
+mod faults;
+mod file;
+mod formatted;
 mod fresh;
 mod memory_host;
+mod pick;
+mod state;
 mod view;
 
 pub use fresh::MemoryFresh;
 pub use memory_host::MemoryHost;
+pub use pick::Pick;
 pub use view::MemoryView;
+
+#[cfg(test)]
+mod tests;

@@ -1,21 +1,33 @@
-ghost use Rattle.std.specs.Prelude.{◌≡◌, ◌≤◌, ◌++◌, true, ℕ, [], IfOk, OnOk, OnErr};
+ghost use Rattle.std.specs.Prelude.{◌≢◌, ◌<◌, ◌-◌, ◌^◌, slice_get, slice_set, option_copied, OnOk, OnErr, ◌≡◌, ◌≤◌, ◌∷◌, true, ℕ, [], unwrap_or, IfOk};
+ghost use Rattle.host_memory.specs.Faults.{listed_of};
 
-use crate::{MemoryFresh, MemoryView};
-use block_host::{Failed, Host};
+use crate::faults::Faults;
+use crate::state::State;
+use crate::{MemoryFresh, MemoryView, Pick, formatted};
+use block_host::{Block, Failed, Fresh, Host, Settled};
 use ghost_past::Past;
 use std::alloc::{AllocError, Global};
+use std::sync::Arc;
 
 /// A host whose files lie in memory, and that tells all its content.
 #[derive(Drop)]
 pub struct MemoryHost {
-    said: Vec<u8>,
-    faults: u64,
-    past: Past<Vec<u8>>,
+    alloc: Global,
+    state: State,
+    past: Past<State>,
+    own: Faults,
+    greatest: u64,
+    views: Option<Arc<Vec<u64>>>,
+    fresh: Option<Arc<Vec<u64>>>,
 }
 
 impl MemoryHost {
     ghost use Rattle.block_host.specs.Disk.{Image};
-    ghost use Rattle.host_memory.specs.Memory.{memory_disk, memory_faults};
+    ghost use Rattle.block_host.specs.Sealed.{IsSealed, zero_block};
+    ghost use Rattle.block_host.specs.declared.block.Block.{Block};
+    ghost use Rattle.host_memory.specs.Formatted.{first_slot, first_header};
+    ghost use Rattle.host_memory.specs.Pending.{picked};
+    ghost use Rattle.host_memory.specs.Memory.{memory_disk, memory_faults, memory_short, memory_file, memory_plan, Untouched};
 
     /// A host without files that has said nothing and not failed.
     pub fn empty(alloc: Global) -> Result<MemoryHost, AllocError>
@@ -24,26 +36,146 @@ impl MemoryHost {
         ensures moment { IfOk result (λ host. (memory_disk host).moment ≡ 0) }
         ensures said { IfOk result (λ host. (memory_disk host).said ≡ []) }
         ensures faults { IfOk result (λ host. memory_faults host ≡ 0) }
+        ensures short { IfOk result (λ host. memory_short host ≡ 0) }
     {
         Ok(MemoryHost {
-            said: Vec::new(alloc),
-            faults: 0,
+            alloc,
+            state: State::new(alloc),
             past: Past::new(),
+            own: Faults::new(None),
+            greatest: 0,
+            views: None,
+            fresh: None,
         })
+    }
+
+    /// A host with a new store: the meta file, whose slot 0 names revision 1 in generation 1 and whose slot 1 is
+    /// zeros, and file 1 with the header of commit 0. Nothing is pending, nothing was said and nothing has failed.
+    pub fn formatted(alloc: Global) -> Result<MemoryHost, AllocError>
+        ensures meta { IfOk result (λ host. (slot : Block) × IsSealed 0 0 5 first_slot slot × ((memory_disk host).files 0 ≡ slot ∷ zero_block ∷ [])) }
+        ensures file { IfOk result (λ host. (header : Block) × IsSealed 1 0 4 first_header header × ((memory_disk host).files 1 ≡ header ∷ [])) }
+        ensures others { IfOk result (λ host. (file : ℕ) → 1 < file → (memory_disk host).files file ≡ []) }
+        ensures settled { IfOk result (λ host. (image : Image) → (memory_disk host).may_leave image → image ≡ (memory_disk host).files) }
+        ensures moment { IfOk result (λ host. (memory_disk host).moment ≡ 0) }
+        ensures said { IfOk result (λ host. (memory_disk host).said ≡ []) }
+        ensures faults { IfOk result (λ host. (memory_faults host ≡ 0) × (memory_short host ≡ 0)) }
+    {
+        let mut host = MemoryHost::empty(alloc)?;
+        host.state.put(alloc, 0, &formatted::slot())?;
+        host.state.append(alloc, 1, &[formatted::header()])?;
+        Ok(host.reopen(Pick::Written))
     }
 
     /// The bytes said.
     pub fn said(&self) -> &[u8]
         ensures { result.now ≡ (memory_disk self.now).said }
     {
-        &self.said
+        self.state.said()
     }
 
     /// How often the host has failed. It stays at its last value.
     pub fn faults(&self) -> u64
         ensures { result ≡ memory_faults self.now }
     {
-        self.faults
+        self.own.count()
+    }
+
+    /// How many calls failed for want of memory. It stays at its last value.
+    pub fn short(&self) -> u64
+        ensures { result ≡ memory_short self.now }
+    {
+        self.own.short()
+    }
+
+    /// Makes calls fail by their numbers, counted from 1: the host's, and those of each view and each fresh file that is
+    /// made from now on.
+    pub fn fail_calls(
+        &mut self,
+        host: &[u64],
+        views: &[u64],
+        fresh: &[u64],
+    ) -> Result<(), AllocError>
+        ensures ok { OnOk result (memory_plan self.new ≡ record (memory_plan self.old) { host = host.now; views = views.now; fresh = fresh.now }) }
+        ensures err { OnErr result (memory_plan self.new ≡ memory_plan self.old) }
+        ensures untouched { Untouched self.old self.new }
+    {
+        let host = Arc::new(self.alloc, host.to_vec(self.alloc)?)?;
+        let views = Arc::new(self.alloc, views.to_vec(self.alloc)?)?;
+        let fresh = Arc::new(self.alloc, fresh.to_vec(self.alloc)?)?;
+        self.own.list(Some(host));
+        self.views = Some(views);
+        self.fresh = Some(fresh);
+        Ok(())
+    }
+
+    /// Makes each call of the host that can fail do so after this many of them, counted from the host's first.
+    pub fn stop_after(&mut self, calls: u64)
+        ensures plan { memory_plan self.new ≡ record (memory_plan self.old) { stop = calls } }
+        ensures untouched { Untouched self.old self.new }
+    {
+        self.own.stop_after(calls);
+    }
+
+    /// A host with the image that a crash now leaves. Nothing is pending, nothing has failed and no call is to fail; what
+    /// was said stays said.
+    pub fn reopen(self, pick: Pick) -> MemoryHost
+        ensures image { (memory_disk self).may_leave (memory_disk result).files }
+        ensures picked { (file : ℕ) → (memory_disk result).files file ≡ picked pick (memory_file self file) }
+        ensures settled { (image : Image) → (memory_disk result).may_leave image → image ≡ (memory_disk result).files }
+        ensures said { (memory_disk result).said ≡ (memory_disk self).said }
+        ensures moment { (memory_disk result).moment ≡ 0 }
+        ensures faults { (memory_faults result ≡ 0) × (memory_short result ≡ 0) }
+        ensures plan { memory_plan result ≡ record { calls = 0; host = []; views = []; fresh = []; stop = 2 ^ 64 - 1 } }
+    {
+        let mut host = self;
+        host.state.crash(pick);
+        host.past = Past::new();
+        host.own = Faults::new(None);
+        host.greatest = 0;
+        host.views = None;
+        host.fresh = None;
+        host
+    }
+
+    /// A block of a file, where there is one.
+    pub fn block(&self, file: u64, at: u64) -> Option<&Block>
+        ensures { option_copied result ≡ slice_get ((memory_disk self.now).files file) at }
+    {
+        self.state.block(file, at)
+    }
+
+    /// Zeroes a block of a file, all of which is on the disk then; or raises `short` and changes nothing else.
+    pub fn spoil(&mut self, file: u64, at: u64)
+        ensures spoiled { memory_short self.new ≡ memory_short self.old → memory_short self.old < 2 ^ 64 - 1 → memory_file self.new file ≡ record { blocks = slice_set (memory_file self.old file).blocks at zero_block; steps = [] } }
+        ensures others { (other : ℕ) → other ≢ file → memory_file self.new other ≡ memory_file self.old other }
+        ensures said { (memory_disk self.new).said ≡ (memory_disk self.old).said }
+    {
+        let past = self.past.and(&self.state);
+        match self.state.spoil(self.alloc, file, at) {
+            Ok(()) => self.past = past,
+            Err(_) => {
+                let Failed = self.own.run_short();
+            }
+        }
+    }
+
+    // A view on these blocks.
+    fn view_of(&self, file: u64) -> Result<MemoryView, AllocError>
+        ensures content { IfOk result (λ view. view.blocks ≡ (memory_disk self.now).files file) }
+        ensures made { IfOk result (λ view. view.own.count ≡ 0) }
+    {
+        let blocks = self.state.share(self.alloc, file)?;
+        Ok(MemoryView::new(blocks, Faults::new(again(&self.views)?)))
+    }
+
+    // An empty fresh file.
+    fn fresh_of(&self, file: u64) -> Result<MemoryFresh, AllocError>
+        ensures content { IfOk result (λ fresh. fresh.blocks.items ≡ []) }
+        ensures number { IfOk result (λ fresh. fresh.file ≡ file) }
+        ensures made { IfOk result (λ fresh. fresh.own.count ≡ 0) }
+    {
+        let own = Faults::new(again(&self.fresh)?);
+        Ok(MemoryFresh::new(file, Vec::new(self.alloc), own))
     }
 }
 
@@ -52,7 +184,11 @@ impl Host for MemoryHost {
 
     type Fresh = MemoryFresh;
 
-    ghost use Rattle.host_memory.specs.Memory.{memory_disk, memory_faults, memory_lawful};
+    ghost use Rattle.std.proofs.Common.{refl};
+    ghost use Rattle.std.specs.Prelude.{◌≡◌, ◌+◌, ◌-◌, ◌^◌, ◌<◌, ◌≤◌, ◌⊎◌, [], min, max, not, true, IsTrue, IsErr, IfOk, OnOk, OnErr, unwrap_or, length};
+    ghost use Rattle.block_host.specs.Disk.{Says, risen};
+    ghost use Rattle.block_host.specs.Calls.{Reads, Appends, Puts, Cuts, Becomes, Removes, Syncs, NextFile, block_at};
+    ghost use Rattle.host_memory.specs.Memory.{memory_disk, memory_faults, memory_due, memory_short, memory_lawful, HasRunShort, view_short, fresh_short};
 
     ghost tells = { true };
 
@@ -60,37 +196,298 @@ impl Host for MemoryHost {
 
     ghost faults = { memory_faults };
 
-    ghost greatest = { λ _. 0 };
+    ghost greatest = { λ host. host.greatest };
 
     ghost lawful = { λ _ host. memory_lawful host };
 
-    fn say(&mut self, bytes: &[u8]) -> Result<(), Failed> {
-        let past = self.past.and(&self.said);
-        if self.said.extend_from_slice(bytes).is_err() {
-            self.faults = self.faults.saturating_add(1);
-            return Err(Failed);
+    ghost views_tell = { λ _. refl };
+
+    ghost fresh_files_tell = { λ _. refl };
+
+    fn size(&mut self, file: u64) -> Result<u64, Failed>
+        ensures told { IsTrue true → Reads (memory_disk self.old) (memory_disk self.new) }
+        ensures size { IsTrue true → IfOk result (λ size. size ≡ length ((memory_disk self.old).files file)) }
+        ensures clock { (memory_disk self.old).moment ≤ (memory_disk self.new).moment }
+        ensures counts { memory_faults self.old ≤ memory_faults self.new }
+        ensures failed { OnErr result (risen (memory_faults self.old) ≤ memory_faults self.new) }
+        ensures untroubled { OnOk result (memory_faults self.new ≡ memory_faults self.old) }
+        ensures greatest { self.new.greatest ≡ self.old.greatest }
+        ensures due { IsTrue (memory_due self.old) → IsErr result }
+        ensures cause { OnErr result (IsTrue (memory_due self.old) ⊎ HasRunShort self.old self.new) }
+    {
+        self.own.admit()?;
+        Ok(self.state.size(file))
+    }
+
+    fn read(&mut self, file: u64, at: u64, out: &mut Block) -> Result<(), Failed>
+        ensures told { IsTrue true → Reads (memory_disk self.old) (memory_disk self.new) }
+        ensures given { IsTrue true → OnOk result (out.new ≡ block_at ((memory_disk self.old).files file) at) }
+        ensures clock { (memory_disk self.old).moment ≤ (memory_disk self.new).moment }
+        ensures counts { memory_faults self.old ≤ memory_faults self.new }
+        ensures failed { OnErr result (risen (memory_faults self.old) ≤ memory_faults self.new) }
+        ensures untroubled { OnOk result (memory_faults self.new ≡ memory_faults self.old) }
+        ensures greatest { self.new.greatest ≡ self.old.greatest }
+        ensures due { IsTrue (memory_due self.old) → IsErr result }
+        ensures cause { OnErr result (IsTrue (memory_due self.old) ⊎ HasRunShort self.old self.new) }
+    {
+        self.own.admit()?;
+        *out = self.state.at(file, at);
+        Ok(())
+    }
+
+    fn append(&mut self, file: u64, blocks: &[Block]) -> Result<(), Failed>
+        ensures told { IsTrue true → Appends file blocks.now result (memory_disk self.old) (memory_disk self.new) }
+        ensures clock { (memory_disk self.old).moment ≤ (memory_disk self.new).moment }
+        ensures counts { memory_faults self.old ≤ memory_faults self.new }
+        ensures failed { OnErr result (risen (memory_faults self.old) ≤ memory_faults self.new) }
+        ensures untroubled { OnOk result (memory_faults self.new ≡ memory_faults self.old) }
+        ensures greatest { self.new.greatest ≡ self.old.greatest }
+        ensures due { IsTrue (memory_due self.old) → IsErr result }
+        ensures cause { OnErr result (IsTrue (memory_due self.old) ⊎ HasRunShort self.old self.new) }
+    {
+        self.own.admit()?;
+        let past = self.past.and(&self.state);
+        if self.state.append(self.alloc, file, blocks).is_err() {
+            return Err(self.own.run_short());
         }
         self.past = past;
         Ok(())
     }
 
+    fn put(&mut self, slot: u64, block: &Block) -> Result<(), Failed>
+        requires { slot < 2 }
+        ensures told { IsTrue true → Puts slot block.now result (memory_disk self.old) (memory_disk self.new) }
+        ensures clock { (memory_disk self.old).moment ≤ (memory_disk self.new).moment }
+        ensures counts { memory_faults self.old ≤ memory_faults self.new }
+        ensures failed { OnErr result (risen (memory_faults self.old) ≤ memory_faults self.new) }
+        ensures untroubled { OnOk result (memory_faults self.new ≡ memory_faults self.old) }
+        ensures greatest { self.new.greatest ≡ self.old.greatest }
+        ensures due { IsTrue (memory_due self.old) → IsErr result }
+        ensures cause { OnErr result (IsTrue (memory_due self.old) ⊎ HasRunShort self.old self.new) }
+    {
+        self.own.admit()?;
+        let past = self.past.and(&self.state);
+        if self.state.put(self.alloc, slot, block).is_err() {
+            return Err(self.own.run_short());
+        }
+        self.past = past;
+        Ok(())
+    }
+
+    fn cut(&mut self, file: u64, blocks: u64) -> Result<(), Failed>
+        ensures told { IsTrue true → Cuts file blocks result (memory_disk self.old) (memory_disk self.new) }
+        ensures clock { (memory_disk self.old).moment ≤ (memory_disk self.new).moment }
+        ensures counts { memory_faults self.old ≤ memory_faults self.new }
+        ensures failed { OnErr result (risen (memory_faults self.old) ≤ memory_faults self.new) }
+        ensures untroubled { OnOk result (memory_faults self.new ≡ memory_faults self.old) }
+        ensures greatest { self.new.greatest ≡ self.old.greatest }
+        ensures due { IsTrue (memory_due self.old) → IsErr result }
+        ensures cause { OnErr result (IsTrue (memory_due self.old) ⊎ HasRunShort self.old self.new) }
+    {
+        self.own.admit()?;
+        let past = self.past.and(&self.state);
+        if self.state.cut(self.alloc, file, blocks).is_err() {
+            return Err(self.own.run_short());
+        }
+        self.past = past;
+        Ok(())
+    }
+
+    fn sync(&mut self, file: u64) -> Result<(), Failed>
+        ensures told { IsTrue true → Syncs file result (memory_disk self.old) (memory_disk self.new) }
+        ensures clock { (memory_disk self.old).moment ≤ (memory_disk self.new).moment }
+        ensures counts { memory_faults self.old ≤ memory_faults self.new }
+        ensures failed { OnErr result (risen (memory_faults self.old) ≤ memory_faults self.new) }
+        ensures untroubled { OnOk result (memory_faults self.new ≡ memory_faults self.old) }
+        ensures greatest { self.new.greatest ≡ self.old.greatest }
+        ensures due { IsTrue (memory_due self.old) → IsErr result }
+        ensures cause { OnErr result (IsTrue (memory_due self.old) ⊎ HasRunShort self.old self.new) }
+    {
+        self.own.admit()?;
+        self.past = self.past.and(&self.state);
+        self.state.sync(file);
+        Ok(())
+    }
+
+    fn next_file(&mut self, after: u64) -> Result<Option<u64>, Failed>
+        ensures told { IsTrue true → Reads (memory_disk self.old) (memory_disk self.new) }
+        ensures next { IsTrue true → IfOk result (NextFile after (memory_disk self.old).files) }
+        ensures clock { (memory_disk self.old).moment ≤ (memory_disk self.new).moment }
+        ensures counts { memory_faults self.old ≤ memory_faults self.new }
+        ensures failed { OnErr result (risen (memory_faults self.old) ≤ memory_faults self.new) }
+        ensures untroubled { OnOk result (memory_faults self.new ≡ memory_faults self.old) }
+        ensures greatest { self.new.greatest ≡ self.old.greatest }
+        ensures due { IsTrue (memory_due self.old) → IsErr result }
+        ensures cause { OnErr result (IsTrue (memory_due self.old) ⊎ HasRunShort self.old self.new) }
+    {
+        self.own.admit()?;
+        Ok(self.state.next(after))
+    }
+
+    fn remove(&mut self, file: u64) -> bool
+        ensures told { IsTrue true → Removes file result (memory_disk self.old) (memory_disk self.new) }
+        ensures clock { (memory_disk self.old).moment ≤ (memory_disk self.new).moment }
+        ensures untroubled { memory_faults self.new ≡ memory_faults self.old }
+        ensures greatest { self.new.greatest ≡ self.old.greatest }
+        ensures due { result ≡ not (memory_due self.old) }
+    {
+        if self.own.admit_quietly() {
+            self.past = self.past.and(&self.state);
+            self.state.remove(file);
+            true
+        } else {
+            false
+        }
+    }
+
+    fn view(&mut self, file: u64) -> Result<MemoryView, Failed>
+        ensures told { IsTrue true → Reads (memory_disk self.old) (memory_disk self.new) }
+        ensures content { IsTrue true → IfOk result (λ view. ⟦<MemoryView as block_host::View>⟧.content view ≡ (memory_disk self.old).files file) }
+        ensures made { IfOk result (λ view. ⟦<MemoryView as block_host::View>⟧.faults view ≡ 0) }
+        ensures clock { (memory_disk self.old).moment ≤ (memory_disk self.new).moment }
+        ensures counts { memory_faults self.old ≤ memory_faults self.new }
+        ensures failed { OnErr result (risen (memory_faults self.old) ≤ memory_faults self.new) }
+        ensures untroubled { OnOk result (memory_faults self.new ≡ memory_faults self.old) }
+        ensures greatest { self.new.greatest ≡ self.old.greatest }
+        ensures due { IsTrue (memory_due self.old) → IsErr result }
+        ensures cause { OnErr result (IsTrue (memory_due self.old) ⊎ HasRunShort self.old self.new) }
+    {
+        self.own.admit()?;
+        match self.view_of(file) {
+            Ok(view) => Ok(view),
+            Err(_) => Err(self.own.run_short()),
+        }
+    }
+
+    fn renew(&mut self, file: u64, view: &mut MemoryView) -> Result<(), Failed>
+        ensures told { IsTrue true → Reads (memory_disk self.old) (memory_disk self.new) }
+        ensures content { IsTrue true → OnOk result (⟦<MemoryView as block_host::View>⟧.content view.new ≡ (memory_disk self.old).files file) }
+        ensures kept { IsTrue true → OnErr result (⟦<MemoryView as block_host::View>⟧.content view.new ≡ ⟦<MemoryView as block_host::View>⟧.content view.old) }
+        ensures view_count { ⟦<MemoryView as block_host::View>⟧.faults view.new ≡ ⟦<MemoryView as block_host::View>⟧.faults view.old }
+        ensures clock { (memory_disk self.old).moment ≤ (memory_disk self.new).moment }
+        ensures counts { memory_faults self.old ≤ memory_faults self.new }
+        ensures failed { OnErr result (risen (memory_faults self.old) ≤ memory_faults self.new) }
+        ensures untroubled { OnOk result (memory_faults self.new ≡ memory_faults self.old) }
+        ensures greatest { self.new.greatest ≡ self.old.greatest }
+        ensures due { IsTrue (memory_due self.old) → IsErr result }
+        ensures cause { OnErr result (IsTrue (memory_due self.old) ⊎ HasRunShort self.old self.new) }
+    {
+        self.own.admit()?;
+        match self.state.share(self.alloc, file) {
+            Ok(blocks) => {
+                view.renew(blocks);
+                Ok(())
+            }
+            Err(_) => Err(self.own.run_short()),
+        }
+    }
+
+    fn absorb_view(&mut self, view: MemoryView)
+        ensures told { IsTrue true → Reads (memory_disk self.old) (memory_disk self.new) }
+        ensures clock { (memory_disk self.old).moment ≤ (memory_disk self.new).moment }
+        ensures counts { memory_faults self.old ≤ memory_faults self.new }
+        ensures failed { 1 ≤ ⟦<MemoryView as block_host::View>⟧.faults view → risen (memory_faults self.old) ≤ memory_faults self.new }
+        ensures untroubled { ⟦<MemoryView as block_host::View>⟧.faults view ≡ 0 → memory_faults self.new ≡ memory_faults self.old }
+        ensures greatest { self.new.greatest ≡ self.old.greatest }
+        ensures short { memory_short self.new ≡ min (memory_short self.old + view_short view) (2 ^ 64 - 1) }
+    {
+        self.own.absorb(view.own());
+    }
+
+    fn absorb_fresh(&mut self, fresh: MemoryFresh)
+        ensures told { IsTrue true → Reads (memory_disk self.old) (memory_disk self.new) }
+        ensures clock { (memory_disk self.old).moment ≤ (memory_disk self.new).moment }
+        ensures counts { memory_faults self.old ≤ memory_faults self.new }
+        ensures failed { 1 ≤ ⟦<MemoryFresh as block_host::Fresh>⟧.faults fresh → risen (memory_faults self.old) ≤ memory_faults self.new }
+        ensures untroubled { ⟦<MemoryFresh as block_host::Fresh>⟧.faults fresh ≡ 0 → memory_faults self.new ≡ memory_faults self.old }
+        ensures greatest { IsTrue true → self.new.greatest ≡ max (self.old.greatest) (length (⟦<MemoryFresh as block_host::Fresh>⟧.content fresh)) }
+        ensures short { memory_short self.new ≡ min (memory_short self.old + fresh_short fresh) (2 ^ 64 - 1) }
+    {
+        self.own.absorb(fresh.own());
+        self.greatest = self.greatest.max(fresh.size());
+    }
+
+    fn fresh(&mut self, file: u64) -> Result<MemoryFresh, Failed>
+        ensures told { IsTrue true → Reads (memory_disk self.old) (memory_disk self.new) }
+        ensures empty { IsTrue true → IfOk result (λ fresh. ⟦<MemoryFresh as block_host::Fresh>⟧.content fresh ≡ []) }
+        ensures number { IfOk result (λ fresh. ⟦<MemoryFresh as block_host::Fresh>⟧.file fresh ≡ file) }
+        ensures made { IfOk result (λ fresh. ⟦<MemoryFresh as block_host::Fresh>⟧.faults fresh ≡ 0) }
+        ensures clock { (memory_disk self.old).moment ≤ (memory_disk self.new).moment }
+        ensures counts { memory_faults self.old ≤ memory_faults self.new }
+        ensures failed { OnErr result (risen (memory_faults self.old) ≤ memory_faults self.new) }
+        ensures untroubled { OnOk result (memory_faults self.new ≡ memory_faults self.old) }
+        ensures greatest { self.new.greatest ≡ self.old.greatest }
+        ensures due { IsTrue (memory_due self.old) → IsErr result }
+        ensures cause { OnErr result (IsTrue (memory_due self.old) ⊎ HasRunShort self.old self.new) }
+    {
+        self.own.admit()?;
+        match self.fresh_of(file) {
+            Ok(fresh) => Ok(fresh),
+            Err(_) => Err(self.own.run_short()),
+        }
+    }
+
+    fn adopt(&mut self, settled: Settled) -> Result<(), Failed>
+        ensures told { IsTrue true → Becomes settled.file (unwrap_or settled.blocks []) result (memory_disk self.old) (memory_disk self.new) }
+        ensures clock { (memory_disk self.old).moment ≤ (memory_disk self.new).moment }
+        ensures counts { memory_faults self.old ≤ memory_faults self.new }
+        ensures failed { OnErr result (risen (memory_faults self.old) ≤ memory_faults self.new) }
+        ensures untroubled { OnOk result (memory_faults self.new ≡ memory_faults self.old) }
+        ensures greatest { self.new.greatest ≡ self.old.greatest }
+        ensures due { IsTrue (memory_due self.old) → IsErr result }
+        ensures cause { OnErr result (IsTrue (memory_due self.old) ⊎ HasRunShort self.old self.new) }
+    {
+        self.own.admit()?;
+        let past = self.past.and(&self.state);
+        let file = settled.file();
+        let blocks = blocks_of(self.alloc, settled);
+        if self.state.adopt(self.alloc, file, &blocks).is_err() {
+            return Err(self.own.run_short());
+        }
+        self.past = past;
+        Ok(())
+    }
+
+    fn say(&mut self, bytes: &[u8]) -> Result<(), Failed>
+        ensures told { IsTrue true → Says bytes.now result (memory_disk self.old) (memory_disk self.new) }
+        ensures clock { (memory_disk self.old).moment ≤ (memory_disk self.new).moment }
+        ensures counts { memory_faults self.old ≤ memory_faults self.new }
+        ensures failed { OnErr result (risen (memory_faults self.old) ≤ memory_faults self.new) }
+        ensures untroubled { OnOk result (memory_faults self.new ≡ memory_faults self.old) }
+        ensures greatest { self.new.greatest ≡ self.old.greatest }
+        ensures due { IsTrue (memory_due self.old) → IsErr result }
+        ensures cause { OnErr result (IsTrue (memory_due self.old) ⊎ HasRunShort self.old self.new) }
+    {
+        self.own.admit()?;
+        let noted = self.past.and(&self.state);
+        if self.state.say(bytes).is_err() {
+            return Err(self.own.run_short());
+        }
+        self.past = noted;
+        Ok(())
+    }
+
     fn faults(&self) -> u64 {
-        self.faults
+        self.own.count()
     }
 }
 
-#[cfg(test)]
-mod tests {
-    use super::*;
-    use std::test::Fail;
+// The blocks of a settled file; none where they are not told.
+fn blocks_of(alloc: Global, settled: Settled) -> Vec<Block>
+    ensures { result.items ≡ unwrap_or settled.blocks [] }
+{
+    match settled.blocks() {
+        Some(blocks) => blocks,
+        None => Vec::new(alloc),
+    }
+}
 
-    #[test]
-    fn says_all_it_is_given(rt: HostRuntime) -> Result<(), Fail> {
-        let mut host = MemoryHost::empty(rt.alloc())?;
-        assert_eq!(rt; host.say(b"ab"), Ok(()));
-        assert_eq!(rt; host.say(b"c"), Ok(()));
-        assert_eq!(rt; host.said(), b"abc".as_slice());
-        assert_eq!(rt; Host::faults(&host), 0);
-        Ok(())
+// The same list once more.
+fn again(list: &Option<Arc<Vec<u64>>>) -> Result<Option<Arc<Vec<u64>>>, AllocError>
+    ensures { IfOk result (λ other. listed_of other ≡ listed_of list.now) }
+{
+    match list {
+        Some(numbers) => Ok(Some(Arc::try_clone(numbers)?)),
+        None => Ok(None),
     }
 }

@@ -1,9 +1,9 @@
 -- How the run of a source's bytes ends.
-use Rattle.std.proofs.Common.{◌≡◌, ◌≢◌, ℕ, ◌+◌, ◌<◌, ◌≤◌, ◌^◌, Bool, true, false, eqb, List, [], ◌∷◌, ◌++◌, length, take, drop, get_or, suc, min, refl, sym, ap, subst, ◌∙◌, arith, append_assoc, append-nil, length-append, length-take, length-drop, ◌-◌, inl, inr}
+use Rattle.std.proofs.Common.{◌≡◌, ◌≢◌, ℕ, ◌+◌, ◌≤◌, true, false, eqb, List, [], ◌∷◌, ◌++◌, length, take, drop, get_or, refl, sym, ap, subst, ◌∙◌, arith, append_assoc, append-nil, length-append, length-take, length-drop, ◌-◌, inl, inr}
 use Rattle.std.proofs.Math.Seq.{take-add}
 use Rattle.std.proofs.lemmas.Bool.{eqb-true, false≢true}
-use Rattle.play_run.specs.Script.{IsText, IsBad, ended, HasSaid, last_line, IsTooLong}
-use Rattle.play_run.specs.Progress.{HasRun, HasTaken, HasHeard, Stops, StopsText, StopsAtBad, StopsAmong, Feeds, EndsBy, EndsWhole, EndsAtBad, EndsAtFault, EndsAmong}
+use Rattle.play_run.specs.Script.{IsText, ended, HasSaid, last_line}
+use Rattle.play_run.specs.Progress.{HasRun, HasTaken, HasHeard, Stops, StopsText, StopsAtBad, StopsAmong, Feeds, EndsBy}
 use Rattle.play_run.specs.declared.plain.PlainStore.{PlainStore}
 use Rattle.play_run.specs.declared.player.Ended.{Ended}
 use Rattle.play_run.specs.declared.player.Ended.TheVariants.{BadLine, NoMemory, HostFault, SourceFault, AtEnd}
@@ -15,18 +15,20 @@ use Rattle.play_run.proofs.Taking.{stops_more}
 
 pub ends_empty : (base heard taken line_open : List ℕ) (p : PlainStore) (count : ℕ) → HasTaken base heard taken p line_open count → line_open ≡ [] → EndsBy AtEnd base heard taken [] count
 ends_empty base heard taken line_open p count t none =
-    let h : HasHeard base heard t.texts = heard_run base heard t.texts p count t.run in
-    (refl, record {
-      said = h.said;
-      is = h.is;
-      all = record {
-        texts = t.texts;
-        rest = [];
-        cut = t.cut ∙ ap (λ o. ended t.texts ++ o) none;
-        no_newline = tt;
-        said_all = subst (λ ts. HasSaid ts h.said) (sym (append-nil t.texts)) h.said_all;
-      };
-    })
+    let h : HasHeard base heard t.texts = heard_run base heard t.texts p count t.run in (
+      refl,
+      record {
+        said = h.said;
+        is = h.is;
+        all = record {
+          texts = t.texts;
+          rest = [];
+          cut = t.cut ∙ ap (λ o. ended t.texts ++ o) none;
+          no_newline = tt;
+          said_all = subst (λ ts. HasSaid ts h.said) (sym (append-nil t.texts)) h.said_all;
+        };
+      },
+    )
 
 pub nonempty : (xs : List ℕ) → eqb (length xs) 0 ≡ false → xs ≢ []
 nonempty xs some none = false≢true (sym some ∙ ap (λ ys. eqb (length ys) 0) none)
@@ -43,18 +45,20 @@ pub ends_last : (base heard heard' taken line_open : List ℕ) (p q : PlainStore
     → ((texts : List (List ℕ)) → IsText line_open → HasRun base heard texts p count → HasRun base heard' (texts ++ line_open ∷ []) q after)
     → EndsBy AtEnd base heard' taken [] after
 ends_last base heard heard' taken line_open p q count after t some run =
-    let h : HasHeard base heard' (t.texts ++ line_open ∷ []) = heard_run base heard' (t.texts ++ line_open ∷ []) q after (run t.texts t.no_newline t.run) in
-    (refl, record {
-      said = h.said;
-      is = h.is;
-      all = record {
-        texts = t.texts;
-        rest = line_open;
-        cut = t.cut;
-        no_newline = t.no_newline;
-        said_all = subst (λ ts. HasSaid (t.texts ++ ts) h.said) (sym (last_of line_open some)) h.said_all;
-      };
-    })
+    let h : HasHeard base heard' (t.texts ++ line_open ∷ []) = heard_run base heard' (t.texts ++ line_open ∷ []) q after (run t.texts t.no_newline t.run) in (
+      refl,
+      record {
+        said = h.said;
+        is = h.is;
+        all = record {
+          texts = t.texts;
+          rest = line_open;
+          cut = t.cut;
+          no_newline = t.no_newline;
+          said_all = subst (λ ts. HasSaid (t.texts ++ ts) h.said) (sym (last_of line_open some)) h.said_all;
+        };
+      },
+    )
 
 pub ends_stops : (why : Ended) (base heard heard' taken line_open : List ℕ) (p : PlainStore) (count after : ℕ) → HasTaken base heard taken p line_open count → line_open ≢ []
     → StopsText why line_open heard heard' → after ≡ count → EndsBy why base heard' taken [] after

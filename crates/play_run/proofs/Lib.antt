@@ -3,4 +3,4 @@ pub mod PlainSaid
 pub mod Runs
 pub mod Taking
 pub mod Ending
-pub mod Played
+pub mod Ends

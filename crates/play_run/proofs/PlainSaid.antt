@@ -1,5 +1,5 @@
 -- What the plain store says has a text.
-use Rattle.std.proofs.Common.{◌≡◌, ℕ, List, Option, Some, None, cond, Bool, true, false, eqb, ◌+◌}
+use Rattle.std.proofs.Common.{ℕ, List, Option, Some, None, cond, Bool, true, false, eqb, ◌+◌}
 use Rattle.forest_model.specs.declared.line.Verb.{Verb}
 use Rattle.forest_model.specs.declared.line.Verb.TheVariants.{Set, Get, Commit}
 use Rattle.forest_model.specs.declared.line.Said.{Said}

@@ -1,17 +1,17 @@
 -- A line over the plain store is one of the session that it stands for.
-use Rattle.std.proofs.Common.{length-append, ◌≡◌, ℕ, ◌+◌, ◌*◌, ◌<◌, ◌≤◌, ◌/◌, ◌%◌, ◌^◌, Bool, true, false, cond, ◌&&◌, ◌||◌, not, eqb, ltb, leb, List, [], ◌∷◌, ◌++◌, length, replicate, Option, Some, None, refl, sym, ap, subst, ◌∙◌, arith, eq-eqb}
-use Rattle.std.proofs.lemmas.Bool.{eqb-true, leb-true, false≢true}
+use Rattle.std.proofs.Common.{codes, length-append, ◌≡◌, ℕ, ◌+◌, ◌<◌, ◌≤◌, ◌/◌, ◌%◌, ◌^◌, Bool, true, false, cond, ◌&&◌, not, eqb, List, [], ◌∷◌, ◌++◌, length, replicate, Option, Some, None, refl, sym, ap, subst, ◌∙◌, arith, eq-eqb}
+use Rattle.std.proofs.lemmas.Bool.{eqb-true, false≢true}
 use Rattle.std.proofs.lemmas.List.{length-replicate}
 use Rattle.std.specs.Cmp.Lexicographic.{pointwise, nat_list_eq_equiv}
 use Rattle.std.proofs.lemmas.Bool.Decides.{nat_tests}
-use Rattle.std.specs.Prelude.{nat_lt, nat_le, nat_eq, ◌==◌, IsTrue, is_none}
+use Rattle.std.specs.Prelude.{nat_eq, nat_lt, ◌==◌, IsTrue}
 use Rattle.std.specs.FinMap as finite
 use Rattle.forest_model.specs.Limits.{is_wrong_key, is_wrong_body, is_worn, any_worn}
 use Rattle.forest_model.specs.Documents.{Map, Entry, is_same_map, is_same_entry, doc_at}
 use Rattle.forest_model.specs.Blocks.{File}
 use Rattle.forest_model.specs.State.{nothing_new}
-use Rattle.forest_model.specs.Step.{causes, first_cause, full, step_of, answer, refused_or, record_length}
-use Rattle.forest_model.specs.Session.{Session, Lane, told, told_by_file, Telling, with_lane, first_lane}
+use Rattle.forest_model.specs.Step.{causes, first_cause, full, step_of, answer, record_length}
+use Rattle.forest_model.specs.Session.{Lane, told, told_by_file, Telling, with_lane, first_lane}
 use Rattle.forest_model.specs.Run.{FileAfter, call_in}
 use Rattle.forest_model.specs.declared.call.Call.{Call}
 use Rattle.forest_model.specs.declared.call.Call.TheVariants as calls
@@ -22,7 +22,9 @@ use Rattle.forest_model.specs.declared.line.Verb.TheVariants.{Set, Get, Commit}
 use Rattle.forest_model.specs.declared.documents.Doc.{Doc}
 use Rattle.forest_model.specs.declared.state.State.{State}
 use Rattle.play_run.specs.Plain.{Hidden, session_at, state_at, lanes_at, lane_at, Stands, plain_answer, plain_told, after_set, after_commit}
-use Rattle.play_run.specs.Built.{is_built, is_built_verb}
+use Rattle.script_text.specs.Words.{is_plain}
+use Rattle.std.specs.List.{list_all}
+use Rattle.play_run.specs.Built.{is_built, is_built_verb, is_own_word}
 use Rattle.play_run.specs.declared.plain.PlainStore.{PlainStore}
 
 -- a small number isn't worn
@@ -70,8 +72,10 @@ lanes_told p h t printed =
 told_set : (p : PlainStore) (h : Hidden) (file : File) (key body : List ℕ) → is_wrong_key key ≡ false → is_wrong_body [] body ≡ false
     → p.seq + 1 < 2 ^ 40 → p.place + 1 < 2 ^ 40 → length file < 2 ^ 31 → h.loose < 4064 → record_length key [] body ≤ 7024
     → told (session_at p h) file (record { lane = 0; verb = Set key [] body })
-      ≡ Some (session_at (after_set p key [] body) (record h { loose = (h.loose + record_length key [] body) % 4064; printed = p.place + 1 }),
-              plain_told p (record { lane = 0; verb = Set key [] body }))
+    ≡ Some (
+      session_at (after_set p key [] body) (record h { loose = (h.loose + record_length key [] body) % 4064; printed = p.place + 1 }),
+      plain_told p (record { lane = 0; verb = Set key [] body }),
+    )
 unfolding set_call
 told_set p h file key body k b s q f l len =
     let line : Line = record { lane = 0; verb = Set key [] body } in
@@ -119,7 +123,7 @@ told_commit_again p h file e d =
 
 told_commit : (p : PlainStore) (h : Hidden) (file : File) → eqb p.seq p.committed ≡ false → p.commit + 1 < 2 ^ 40 → p.place + 1 < 2 ^ 40
     → told (session_at p h) file commit_line
-      ≡ Some (session_at (after_commit p) (record h { old = p.documents; earlier = (state_at p h).last ∷ h.earlier; loose = 0; printed = p.place + 1 }), plain_told p commit_line)
+    ≡ Some (session_at (after_commit p) (record h { old = p.documents; earlier = (state_at p h).last ∷ h.earlier; loose = 0; printed = p.place + 1 }), plain_told p commit_line)
 unfolding commit_line
 told_commit p h file e c q =
     let after : Hidden = record h { old = p.documents; earlier = (state_at p h).last ∷ h.earlier; loose = 0; printed = p.place + 1 } in
@@ -209,8 +213,14 @@ commit_goes p h file s q false e = record {
   tells = told_commit p h file e (omega (arith, s.commit)) q ∙ rw e refl;
   stands = rw e (record { seq = omega (arith, s.seq); committed = omega arith; commit = omega (arith, s.commit); same = λ _. refl; open_block = omega arith });
   grows = rw (e, rises p.place) (record { records = bytes_block; nodes = []; header = []; all = refl; open_block = length-blocks _; flushed = λ h. absurd (omega arith) });
-  few = omega (arith, length-append (file ++ bytes_block ++ []) ([] ∷ []), length-append (file ++ bytes_block) [], length-append file bytes_block,
-      length-blocks (cond (eqb h.loose 0) 0 1), at_most_one (eqb h.loose 0));
+  few = omega (
+    arith,
+    length-append (file ++ bytes_block ++ []) ([] ∷ []),
+    length-append (file ++ bytes_block) [],
+    length-append file bytes_block,
+    length-blocks (cond (eqb h.loose 0) 0 1),
+    at_most_one (eqb h.loose 0),
+  );
 } where
   bytes_block : File
   bytes_block = blocks (cond (eqb h.loose 0) 0 1)
@@ -228,15 +238,20 @@ no_bytes : (meta : List ℕ) → eqb (length meta) 0 ≡ true → meta ≡ []
 no_bytes [] e = refl
 no_bytes (b ∷ meta) e = absurd (omega (arith, eqb-true _ _ e))
 
+right_length : (bytes : List ℕ) → is_own_word bytes ≡ true → is_wrong_key bytes ≡ false
+right_length bytes own =
+    let plain = both (not (is_wrong_key bytes) && list_all is_plain bytes) (not (pointwise nat_eq bytes (codes "-"))) own in
+    off (is_wrong_key bytes) (both (not (is_wrong_key bytes)) (list_all is_plain bytes) plain.0).0
+
 verb_goes : (p : PlainStore) (h : Hidden) (file : File) (verb : Verb) → Stands p h → is_built_verb verb ≡ true → p.place + 1 < 2 ^ 40 → length file < 2 ^ 31
     → LineGoes p h file (record { lane = 0; verb = verb })
 unfolding get_line commit_line
 verb_goes p h file (Set key meta body) s built q f =
-    let outer = both (not (is_wrong_key key) && eqb (length meta) 0) (leb (length body) 3500) built in
-    let inner = both (not (is_wrong_key key)) (eqb (length meta) 0) outer.0 in
+    let outer = both (is_own_word key && eqb (length meta) 0) (is_own_word body) built in
+    let inner = both (is_own_word key) (eqb (length meta) 0) outer.0 in
     subst (λ m. LineGoes p h file (record { lane = 0; verb = Set key m body })) (sym (no_bytes meta inner.1))
-    (set_goes p h file key body s (off (is_wrong_key key) inner.0) (leb-true (length body) 3500 outer.1) q f)
-verb_goes p h file (Get key) s built q f = get_goes p h file key s (off (is_wrong_key key) built)
+    (set_goes p h file key body s (right_length key inner.0) (key_fits body (right_length body outer.1)) q f)
+verb_goes p h file (Get key) s built q f = get_goes p h file key s (right_length key built)
 verb_goes p h file Commit s built q f = commit_goes p h file s q (eqb p.seq p.committed) refl
 verb_goes p h file verb s built q f = absurd (false≢true built)
 

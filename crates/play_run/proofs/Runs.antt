@@ -1,12 +1,11 @@
 -- How a run of lines goes on, and what it says.
-use Rattle.std.proofs.Common.{◌≡◌, ◌≢◌, ℕ, suc, ◌+◌, ◌*◌, ◌<◌, ◌≤◌, ◌^◌, List, [], ◌∷◌, ◌++◌, length, Option, Some, None, Bool, true, false, cond, eqb, refl, sym, ap, subst, ◌∙◌, arith, append_assoc, append-nil, length-append, inl, inr}
+use Rattle.std.proofs.Common.{◌≡◌, ℕ, suc, ◌+◌, ◌<◌, ◌≤◌, ◌^◌, List, [], ◌∷◌, ◌++◌, length, None, Bool, true, false, cond, eqb, refl, sym, ap, subst, ◌∙◌, arith, append_assoc, append-nil, length-append, inl}
 use Rattle.std.specs.Prelude.{IsTrue, ◌==◌}
-use Rattle.std.specs.List.{AllByRecursion}
 use Rattle.forest_model.specs.Blocks.{File}
 use Rattle.forest_model.specs.Session.{Session, Lane, first_lane, with_lane}
 use Rattle.forest_model.specs.Session as sessions
 use Rattle.forest_model.specs.Run.{Run, FileAfter, call_in}
-use Rattle.forest_model.specs.State.{new_state, usual_limits, no_documents}
+use Rattle.forest_model.specs.State.{no_documents}
 use Rattle.forest_model.specs.declared.line.Line.{Line}
 use Rattle.forest_model.specs.declared.line.Told.{Told}
 use Rattle.forest_model.specs.declared.line.Said.{Said}
@@ -14,9 +13,9 @@ use Rattle.forest_model.specs.declared.line.Said.TheVariants.{Committed}
 use Rattle.forest_model.specs.declared.line.Verb.{Verb}
 use Rattle.forest_model.specs.declared.line.Verb.TheVariants.{Set, Commit}
 use Rattle.play_run.specs.Built.{is_built}
-use Rattle.play_run.specs.Plain.{Hidden, session_at, state_at, lanes_at, lane_at, Stands, plain_answer, plain_told, after_commit, new_plain, AreWithin}
-use Rattle.play_run.specs.Script.{start, IsTaken, AreTaken, IsText, IsBad, ended, replies, reply_line, HasSaid}
-use Rattle.play_run.specs.Progress.{Reaches, HasRun, HasTaken, HasHeard, RunsText, StopsAtBad, StopsAmong}
+use Rattle.play_run.specs.Plain.{Hidden, session_at, state_at, lanes_at, lane_at, Stands, plain_answer, plain_told, after_commit, new_plain}
+use Rattle.play_run.specs.Script.{start, IsTaken, AreTaken, IsText, ended, replies, reply_line}
+use Rattle.play_run.specs.Progress.{Reaches, HasRun, HasTaken, HasHeard, RunsText}
 use Rattle.play_run.specs.declared.plain.PlainStore.{PlainStore}
 use Rattle.play_run.proofs.PlainSteps.{LineGoes, line_goes}
 
@@ -147,12 +146,12 @@ run_more_by base heard heard' texts p q count text bytes t r runs plain small by
     let said : heard' ≡ heard ++ reply_line (plain_told p runs.line) = heard_are ∙ ap (λ xs. heard ++ xs) (bytes_are ∙ ap reply_line runs.told) in
     subst (λ h. HasRun base h (texts ++ text ∷ []) q (count + 1)) (sym said)
     (subst (λ (s : PlainStore). HasRun base (heard ++ reply_line (plain_told p runs.line)) (texts ++ text ∷ []) s (count + 1)) (sym runs.stored)
-     (run_more base heard texts p count runs.line text r runs.taken plain small))
+    (run_more base heard texts p count runs.line text r runs.taken plain small))
 
 -- before the first byte
 pub before_first : (base heard line_open : List ℕ) (p : PlainStore) → heard ≡ base → p ≡ new_plain → line_open ≡ [] → HasTaken base heard [] p line_open 0
 before_first base heard line_open p same store none =
     subst (λ (s : PlainStore). HasTaken base heard [] s line_open 0) (sym store)
     (subst (λ o. HasTaken base heard [] new_plain o 0) (sym none)
-     (subst (λ h. HasTaken base h [] new_plain [] 0) (sym same)
-      (record { texts = []; cut = refl; no_newline = tt; run = runs_none base })))
+    (subst (λ h. HasTaken base h [] new_plain [] 0) (sym same)
+    (record { texts = []; cut = refl; no_newline = tt; run = runs_none base })))

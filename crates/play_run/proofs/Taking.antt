@@ -1,11 +1,8 @@
 -- What the next byte of a script leaves of what was taken.
-use Rattle.std.proofs.Common.{◌≡◌, ◌≢◌, ℕ, ◌+◌, ◌<◌, ◌^◌, List, [], ◌∷◌, ◌++◌, length, take, drop, get_or, suc, refl, sym, ap, subst, ◌∙◌, arith, append_assoc, append-nil, drop-cons}
+use Rattle.std.proofs.Common.{◌≡◌, ◌≢◌, ℕ, ◌<◌, List, [], ◌∷◌, ◌++◌, length, take, drop, get_or, suc, sym, ap, subst, ◌∙◌, append_assoc, append-nil, drop-cons}
 use Rattle.std.proofs.lemmas.List.{take-append-drop}
-use Rattle.std.specs.List.{AllByRecursion}
-use Rattle.forest_model.specs.declared.line.Line.{Line}
-use Rattle.play_run.specs.Plain.{plain_answer, plain_told}
-use Rattle.play_run.specs.Script.{IsTaken, IsText, IsBad, ended, replies, reply_line, HasSaid}
-use Rattle.play_run.specs.Progress.{HasRun, HasTaken, HasHeard, Stops, StopsText, StopsAtBad, StopsAmong}
+use Rattle.play_run.specs.Script.{IsText, ended}
+use Rattle.play_run.specs.Progress.{HasRun, HasTaken, HasHeard, Stops, StopsText, StopsAmong}
 use Rattle.play_run.specs.declared.plain.PlainStore.{PlainStore}
 use Rattle.play_run.specs.declared.player.Ended.{Ended}
 use Rattle.play_run.specs.declared.player.Ended.TheVariants.{BadLine, NoMemory, HostFault, SourceFault, AtEnd}
@@ -105,6 +102,6 @@ pub stops_within : (why : Ended) (base heard taken bytes : List ℕ) (i byte cou
     → Stops why base heard ((taken ++ take i bytes) ++ byte ∷ []) count → Stops why base heard (taken ++ bytes) count
 stops_within why base heard taken bytes i byte count small is s =
     subst (λ xs. Stops why base heard xs count) (whole taken bytes i byte small is) (stops_more why base heard ((taken ++ take i bytes) ++ byte ∷ []) (drop (suc i) bytes) count s) where
-  whole : (front xs : List ℕ) (i byte : ℕ) → i < length xs → byte ≡ get_or xs i 0 → (((front ++ take i xs) ++ byte ∷ []) ++ drop (suc i) xs) ≡ front ++ xs
-  whole front xs i byte small is = append_assoc (front ++ take i xs) (byte ∷ []) (drop (suc i) xs) ∙ append_assoc front (take i xs) (byte ∷ drop (suc i) xs)
-      ∙ ap (λ ys. front ++ ys) (ap (λ b. take i xs ++ (b ∷ drop (suc i) xs)) is ∙ ap (λ ys. take i xs ++ ys) (sym (drop-cons xs i 0 small)) ∙ take-append-drop i xs)
+      whole : (front xs : List ℕ) (i byte : ℕ) → i < length xs → byte ≡ get_or xs i 0 → (((front ++ take i xs) ++ byte ∷ []) ++ drop (suc i) xs) ≡ front ++ xs
+      whole front xs i byte small is = append_assoc (front ++ take i xs) (byte ∷ []) (drop (suc i) xs) ∙ append_assoc front (take i xs) (byte ∷ drop (suc i) xs)
+          ∙ ap (λ ys. front ++ ys) (ap (λ b. take i xs ++ (b ∷ drop (suc i) xs)) is ∙ ap (λ ys. take i xs ++ ys) (sym (drop-cons xs i 0 small)) ∙ take-append-drop i xs)

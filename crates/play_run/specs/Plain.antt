@@ -1,8 +1,7 @@
 -- What the plain store of the first path stands for, and what it answers.
-use Rattle.std.specs.Prelude.{◌≡◌, ℕ, ◌+◌, ◌<◌, ◌≤◌, Bool, true, false, ◌&&◌, not, ◌==◌, List, [], ◌∷◌, length, codes, Option, Some, None, nat_le, if◌then◌else◌}
+use Rattle.std.specs.Prelude.{◌≡◌, ℕ, ◌+◌, ◌<◌, ◌≤◌, false, ◌==◌, List, [], ◌∷◌, codes, None, if◌then◌else◌}
 use Rattle.std.specs.Option.{option_map_or}
 use Rattle.std.specs.FinMap as finite
-use Rattle.play_run.specs.Built.{is_built, is_built_verb}
 use Rattle.forest_model.specs.Documents.{Map, key_at, doc_of, doc_at}
 use Rattle.forest_model.specs.State.{usual_limits}
 use Rattle.forest_model.specs.Step.{found_of}

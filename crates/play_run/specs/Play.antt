@@ -1,6 +1,6 @@
 -- What a run of a script has said and taken in the end.
-use Rattle.std.specs.Prelude.{◌≡◌, ◌+◌, ℕ, List, [], ◌∷◌, ◌++◌, length, codes}
-use Rattle.play_run.specs.Script.{HasSaid, RunsWhole, MeetsBad}
+use Rattle.std.specs.Prelude.{◌≡◌, ℕ, List, [], ◌∷◌, ◌++◌, codes}
+use Rattle.play_run.specs.Script.{RunsWhole}
 
 -- these bytes were said behind what had been said before
 abbrev pub SaysSince : List ℕ → List ℕ → (List ℕ → Type 0) → Type 0

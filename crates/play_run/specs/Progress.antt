@@ -1,5 +1,5 @@
 -- How far a player has come: what its plain store stands for, and what was said.
-use Rattle.std.specs.Prelude.{◌≡◌, ◌≢◌, ℕ, ◌+◌, ◌*◌, ◌<◌, ◌≤◌, ◌⊎◌, List, [], ◌∷◌, ◌++◌, length, take}
+use Rattle.std.specs.Prelude.{◌≡◌, ℕ, ◌+◌, ◌*◌, ◌≤◌, ◌⊎◌, List, [], ◌∷◌, ◌++◌, length}
 use Rattle.forest_model.specs.Blocks.{File}
 use Rattle.forest_model.specs.Run.{Run}
 use Rattle.forest_model.specs.declared.line.Line.{Line}

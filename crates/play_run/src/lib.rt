@@ -1,6 +1,17 @@
-//! The run of a script.
+//! The run of a script: lines are read, run over a store in memory and answered, one after another.
+//!
+//! `play` promises that what it says is the text of the run of the sequential store over the script's lines,
+//! and that each of its statuses has its cause. A line is run and answered as soon as it is whole.
 #![tactic(auto)]
 
 mod plain;
-mod play;
 mod player;
+mod program;
+
+pub use player::SCRIPT_LIMIT;
+pub use program::{Played, play};
+
+#[cfg(test)]
+mod listener;
+#[cfg(test)]
+mod tests;

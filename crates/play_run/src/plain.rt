@@ -1,7 +1,9 @@
 ghost use Rattle.std.specs.Prelude.{◌≡◌, ◌+◌, ◌^◌, ◌<◌, ◌≤◌, ◌↔◌, IsTrue, IsSome, IfOk, IfSome, IfNone, OnOk, OnErr, not};
+ghost use Rattle.std.specs.List.{list_all};
 ghost use Rattle.forest_model.specs.Limits.{is_wrong_key};
-ghost use Rattle.play_run.specs.Built.{is_built_verb};
+ghost use Rattle.play_run.specs.Built.{is_built_verb, is_own_word};
 ghost use Rattle.script_text.specs.Replies.{CanBeSaid};
+ghost use Rattle.script_text.specs.Words.{is_plain};
 
 use forest_model::{Bytes, Doc, DocKey, Documents, Found, Line, Refusal, Said, Told, Verb};
 use std::alloc::Global;
@@ -106,7 +108,12 @@ impl PlainStore {
         let seq = doc.seq;
         let DocKey { store: _, key } = key;
         Ok(Said::Got {
-            found: Found { seq, key, meta, body },
+            found: Found {
+                seq,
+                key,
+                meta,
+                body,
+            },
         })
     }
 
@@ -127,21 +134,38 @@ impl PlainStore {
     }
 }
 
-/// Whether the verb is one of the first path: a set without a meta, a get or a commit, with bytes
-/// that it may have.
+/// Whether the verb is one of the first path: a set without a meta, a get or a commit, with keys and bodies
+/// that are their own words.
 fn is_built(verb: &Verb) -> bool
     ensures { result ≡ is_built_verb verb.now }
 {
     match verb {
-        Verb::Set { key, meta, body } => is_key(key) && meta.is_empty() && body.len() <= 3500,
-        Verb::Get { key } => is_key(key),
+        Verb::Set { key, meta, body } => is_own_word(key) && meta.is_empty() && is_own_word(body),
+        Verb::Get { key } => is_own_word(key),
         Verb::Commit => true,
         _ => false,
     }
 }
 
-fn is_key(key: &Bytes) -> bool
-    ensures { result ≡ not (is_wrong_key key.now) }
+/// Whether these are 1 to 3,500 bytes that are their own text word.
+fn is_own_word(bytes: &Bytes) -> bool
+    ensures { result ≡ is_own_word bytes.now }
 {
-    1 <= key.len() && key.len() <= 3500
+    let is_alone = bytes.as_slice() == b"-".as_slice();
+    is_short(bytes) && are_plain(bytes.as_slice()) && !is_alone
+}
+
+fn is_short(bytes: &Bytes) -> bool
+    ensures { result ≡ not (is_wrong_key bytes.now) }
+{
+    1 <= bytes.len() && bytes.len() <= 3500
+}
+
+/// Whether each byte stands for itself in a text word.
+fn are_plain(bytes: &[u8]) -> bool
+    ensures { result ≡ list_all is_plain bytes.now }
+{
+    bytes
+        .iter()
+        .all(|byte| (33..=126).contains(byte) && *byte != b'%')
 }

@@ -214,7 +214,12 @@ impl<H: Host> Player<H> {
 
     /// Reads once, and takes what comes: so many bytes. The room is at most what may still be taken;
     /// the byte behind the limit is taken from the source and isn't run.
-    fn feed<S: Source>(&mut self, source: &mut S, room: &mut [u8], left: usize) -> Result<usize, Ended>
+    fn feed<S: Source>(
+        &mut self,
+        source: &mut S,
+        room: &mut [u8],
+        left: usize,
+    ) -> Result<usize, Ended>
         requires counted { IsCounted self.old.store self.old.count }
         requires small { self.old.count + left ≤ SCRIPT_LIMIT + 1 }
         requires some { 0 < length room.old }

@@ -1,4 +1,10 @@
 pub mod Splitting
 pub mod Spelled
+pub mod Options
+pub mod TextWords
+pub mod Decimals
+pub mod Loops
 pub mod Fields
+pub mod Verbs
+pub mod Cleanness
 pub mod Lines

@@ -1,5 +1,5 @@
 -- A text as words with single spaces between them, and back.
-use Rattle.std.proofs.Common.{◌≡◌, ◌==◌, ℕ, ◌+◌, ◌<◌, ◌^◌, not, true, false, List, [], ◌∷◌, ◌++◌, length, get_or, take, drop, All, Option, Some, None, is_some, Bor, refl, sym, ap, ◌∙◌, append_assoc, arith}
+use Rattle.std.proofs.Common.{◌≡◌, ◌==◌, ℕ, ◌+◌, ◌<◌, ◌^◌, not, true, false, List, [], ◌∷◌, ◌++◌, length, get_or, take, drop, All, Option, Some, None, is_some, Bor, refl, sym, ap, ◌∙◌, append_assoc, arith, Bool}
 use Rattle.std.specs.List.{flat_map, join_with_byte, list_all, AllByRecursion}
 use Rattle.std.specs.Option.{option_map_or}
 use Rattle.std.proofs.lemmas.List.{take-append-drop, drop_more, take_more, append-nil}
@@ -13,7 +13,7 @@ use Rattle.std.proofs.lemmas.List.Elements.{All-from_recursion, All-from_get_or}
 use Rattle.std.proofs.lemmas.Bool.{ne_eqb, and_parts}
 use Rattle.std.proofs.lemmas.Bool.Decides.{nat_tests}
 use Rattle.script_text.specs.Words.{spaced, joined}
-use Rattle.script_text.specs.Reading.{words_in, end_at}
+use Rattle.script_text.specs.Reading.{words_in, none_left}
 
 -- a word has no space
 abbrev pub IsWord : List ℕ → Type 0
@@ -29,18 +29,26 @@ words_in-at text i lt clean space =
 pub words_in-alone : (text : List ℕ) → IsWord text → words_in text ≡ text ∷ []
 words_in-alone text clean = slice_split_none (λ b. b == 32) text clean
 
-end_at-full : (ws : List (List ℕ)) → 0 < length ws → end_at ws ≡ None
-unfolding end_at
-end_at-full [] full = absurd (omega arith)
-end_at-full (w ∷ ws) full = refl
+none_left-full : (ws : List (List ℕ)) → 0 < length ws → none_left ws ≡ false
+unfolding none_left
+none_left-full [] full = absurd (omega arith)
+none_left-full (w ∷ ws) full = refl
 
 -- no text is without a word
-pub end_at-text : (text : List ℕ) → end_at (words_in text) ≡ None
-end_at-text text = end_at-full (words_in text) (omega (arith, length-slice_split (λ b. b == 32) text))
+none_left-text : (text : List ℕ) → none_left (words_in text) ≡ false
+none_left-text text = none_left-full (words_in text) (omega (arith, length-slice_split (λ b. b == 32) text))
 
-pub end_at-left : (left : Option (Bor (List ℕ))) → is_some left ≡ true → end_at (option_map_or (λ text. words_in text.now) left []) ≡ None
-end_at-left None some = absurd cc
-end_at-left (Some text) some = end_at-text text.now
+pub none_left-none : (left : Option (Bor (List ℕ))) → none_left (option_map_or (λ text. words_in text.now) left []) ≡ not (is_some left)
+unfolding none_left
+none_left-none None = refl
+none_left-none (Some text) = none_left-text text.now
+
+double_not : (b : Bool) → not (not b) ≡ b
+double_not true = refl
+double_not false = refl
+
+pub done_is : (left : Option (Bor (List ℕ))) (b : Bool) → is_some left ≡ not b → b ≡ none_left (option_map_or (λ text. words_in text.now) left [])
+done_is left b e = sym (none_left-none left ∙ ap not e ∙ double_not b)
 
 -- ---- words with one space between them
 

@@ -101,25 +101,10 @@ IsRightVerb server verb.CompactSwitch = IsTrue (not server)
 IsRightVerb server verb.CompactCancel = IsTrue (not server)
 IsRightVerb server verb.Compact = IsTrue server
 
--- ---- the lines that are read so far
-
--- bytes that stand for themselves as a text word
-abbrev pub IsOwnWord : List ℕ → Type 0
-IsOwnWord bytes = IsTrue (list_all is_plain bytes) × (1 ≤ length bytes) × (length bytes ≤ 3500) × (bytes ≢ codes "-")
-
-unfoldable pub IsFirstPathVerb : Verb → Type 0
-IsFirstPathVerb (verb.Set key meta body) = IsOwnWord key × (meta ≡ []) × IsOwnWord body
-IsFirstPathVerb (verb.Get key) = IsOwnWord key
-IsFirstPathVerb verb.Commit = Unit {0}
-IsFirstPathVerb _ = ⊥
-
-abbrev pub IsFirstPath : Line → Type 0
-IsFirstPath line = (line.lane ≡ 0) × IsFirstPathVerb line.verb
-
 -- ---- the grammar
 
 abbrev pub IsRight : Bool → Line → Type 0
-IsRight server line = (line.lane ≤ 15) × IsRightVerb server line.verb × IsFirstPath line
+IsRight server line = (line.lane ≤ 15) × IsRightVerb server line.verb
 
 -- The text is that of a line, in a script for the server or for play.
 abbrev pub IsLine : Bool → Line → List ℕ → Type 0

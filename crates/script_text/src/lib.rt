@@ -5,8 +5,11 @@
 //! one text. Nothing is refused but for want of memory.
 #![tactic(auto)]
 
+mod bytes;
 mod keyword;
 mod laws;
+mod line_reader;
+mod number;
 mod reader;
 mod reading;
 mod reply;
@@ -20,4 +23,6 @@ pub use reply::reply_text;
 pub use writing::text_of;
 
 #[cfg(test)]
-mod tests;
+mod line_tests;
+#[cfg(test)]
+mod reply_tests;

@@ -8,10 +8,10 @@ use crate::unread::Unread;
 use forest_model::{Line, Refusal};
 use std::alloc::Global;
 
-fn read(alloc: Global, text: &[u8]) -> Result<Line, Unread>
-    ensures { GivesFirst result (line_at (words_in text.now)) }
+fn read(alloc: Global, text: &[u8], server: bool) -> Result<Line, Unread>
+    ensures { GivesFirst result (line_at server (words_in text.now)) }
 {
-    Reader::new(text).line(alloc)
+    Reader::new(text).line(alloc, server)
 }
 
 /// The line that a text without its newline is, in a script for the server or for play, and `None`
@@ -21,7 +21,7 @@ pub fn line_of(alloc: Global, text: &[u8], server: bool) -> Result<Option<Line>,
     ensures none { IfOk result (λ found. IfNone found ((line : Line) → ¬ (IsLine server line text.now))) }
     ensures memory { OnErr result (result ≡ Err Refusal.NoMemory) }
 {
-    match read(alloc, text) {
+    match read(alloc, text, server) {
         Ok(line) => Ok(Some(line)),
         Err(Unread::NotALine) => Ok(None),
         Err(Unread::NoMemory) => Err(Refusal::NoMemory),

@@ -5,6 +5,7 @@ ghost use Rattle.std.specs.String.{string_bytes};
 ghost use Rattle.std.specs.List.{flat_map};
 ghost use Rattle.script_text.specs.Grammar.{meta_words};
 
+use crate::bytes::is_plain;
 use forest_model::{Bytes, Refusal};
 use std::alloc::Global;
 use std::marker::Model;
@@ -129,13 +130,6 @@ impl Writer {
         let Writer { text } = self;
         Bytes::from_vec(text.into_bytes())
     }
-}
-
-/// Whether a byte stands for itself.
-fn is_plain(byte: u8) -> bool
-    ensures { result ≡ is_plain byte }
-{
-    (33..=126).contains(&byte) && byte != b'%'
 }
 
 /// An upper-case hexadecimal digit.

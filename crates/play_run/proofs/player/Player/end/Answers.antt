@@ -1,4 +1,4 @@
-use Rattle.std.proofs.Common.{subst, sym, ◌∙◌, ap, length, eqb, ◌≢◌, ◌≡◌, [], List, ℕ}
+use Rattle.std.proofs.Common.{subst, sym, ◌∙◌, ◌≢◌, ◌≡◌, [], List, ℕ}
 use Rattle.play_run.proofs.Ending.{ends_empty, ends_last, ends_stops, nonempty, empty}
 use Rattle.play_run.proofs.player.Player.end.Goals as goal
 

@@ -15,7 +15,7 @@ invariant-script g l = record {
   taken : IsTrue g.S.Source.tells → IsTrue g.H.Host.tells → (base : List ℕ)
       → HasTaken base (g.H.Host.disk l.initial.self.host).said [] l.initial.self.store l.initial.self.open_line.items l.initial.self.count
       → (taken : List ℕ) × (g.S.Source.rest l.initial.source ≡ taken ++ g.S.Source.rest l.source) × (length taken + l.left ≡ SCRIPT_LIMIT + 1)
-        × HasTaken base (g.H.Host.disk l.self.host).said taken l.self.store l.self.open_line.items l.self.count;
+      × HasTaken base (g.H.Host.disk l.self.host).said taken l.self.store l.self.open_line.items l.self.count;
 }
 
 abbrev pub decreases-script : goal.decreases-script

@@ -4,7 +4,7 @@ use Rattle.std.proofs.lemmas.Str.{encode_ascii}
 use Rattle.script_text.specs.Words.{word_of, spaced}
 use Rattle.script_text.proofs.Spelled.{word_of-empty, word_of-dash, word_of-other}
 use Rattle.std.proofs.lemmas.Bool.{both_ways}
-use Rattle.script_text.proofs.Fields.{same_list, same_test}
+use Rattle.script_text.proofs.Spelled.{same_list, same_test}
 use Rattle.script_text.proofs.Splitting.{word_written}
 use Rattle.script_text.proofs.writer.Writer.text.Goals as goal
 

@@ -1,0 +1,34 @@
+ghost use Rattle.std.specs.Prelude.{◌≡◌, ◌≤◌, ◌⊎◌, [], map, IsTrue, IfOk};
+ghost use Rattle.std.specs.String.{string_bytes};
+ghost use Rattle.block_host.specs.Disk.{risen};
+ghost use Rattle.host_memory.specs.Memory.{memory_disk};
+ghost use Rattle.play_run.specs.Script.{AreWords, MeetsBad, RunsAll, RunsPrefix};
+ghost use Rattle.play_run.specs.Play.{RunsAndSays, Takes, source_fault, words_refused};
+
+use block_host::Source;
+use host_memory::MemoryHost;
+use play_run::{Played, play};
+use std::alloc::{AllocError, Global};
+
+/// Runs the script of a source over a new store in memory, whose host has said nothing before.
+pub(crate) fn play_in_memory<S: Source>(
+    alloc: Global,
+    words: &[String],
+    source: &mut S,
+) -> Result<Played<MemoryHost>, AllocError>
+    ensures words { IfOk result (λ p. p.status ≡ 1 → ¬ (AreWords (map string_bytes words.now))) }
+    ensures refused { IfOk result (λ p. ¬ (AreWords (map string_bytes words.now)) → (p.status ≡ 1) ⊎ (p.status ≡ 4)) }
+    ensures said_refused { IfOk result (λ p. p.status ≡ 1 → (memory_disk p.host).said ≡ words_refused) }
+    ensures all { IfOk result (λ p. p.status ≡ 0 → IsTrue S.tells → (S.rest source.new ≡ []) × RunsAll (S.rest source.old) (memory_disk p.host).said) }
+    ensures source { IfOk result (λ p. p.status ≡ 2 → risen (S.faults source.old) ≤ S.faults source.new) }
+    ensures said_source { IfOk result (λ p. p.status ≡ 2 → IsTrue S.tells
+        → Takes (S.rest source.old) (S.rest source.new) (λ taken. RunsAndSays source_fault taken (memory_disk p.host).said)) }
+    ensures bad { IfOk result (λ p. p.status ≡ 3 → IsTrue S.tells
+        → Takes (S.rest source.old) (S.rest source.new) (λ taken. MeetsBad taken (S.rest source.new) (memory_disk p.host).said)) }
+    ensures memory { IfOk result (λ p. p.status ≡ 5 → IsTrue S.tells
+        → Takes (S.rest source.old) (S.rest source.new) (λ taken. RunsPrefix taken (memory_disk p.host).said)) }
+    ensures statuses { IfOk result (λ p. p.status ≤ 5) }
+{
+    let host = MemoryHost::formatted(alloc)?;
+    Ok(play(alloc, words, source, host))
+}

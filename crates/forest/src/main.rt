@@ -1,0 +1,54 @@
+//! The program `forest`. It runs the script of its standard input over a new store in memory, and writes the
+//! reply lines to its standard output. It ends with the status of the run, with 4 where the replies can't be
+//! written, and with 5 where there is no memory.
+#![tactic(auto)]
+
+ghost use Rattle.std.specs.Prelude.{◌≡◌, ◌⊎◌};
+
+mod answers;
+mod ending;
+mod words;
+
+use answers::play_in_memory;
+use block_host::StdSource;
+use ending::{NO_MEMORY, WORDS_REFUSED, status_at_end};
+use host_memory::MemoryHost;
+use play_run::Played;
+use std::alloc::AllocError;
+use std::process::ExitCode;
+
+/// What is told on standard error where the words are refused.
+const USAGE: &str = "\
+usage: forest play --memory
+
+Runs the script of standard input over a new store in memory, and says one reply line per line.
+A line is `0 set KEY BODY`, `0 get KEY` or `0 commit`.
+";
+
+fn main(rt: HostRuntime) -> ExitCode {
+    match run(&rt) {
+        Ok(status) => ExitCode::from(status),
+        Err(AllocError) => ExitCode::from(NO_MEMORY),
+    }
+}
+
+/// Runs the script of standard input as the words ask, and gives the exit status.
+fn run(rt: &HostRuntime) -> Result<u8, AllocError> {
+    let words = words::given(rt)?;
+    let mut source = StdSource::new(rt.stdin());
+    let played = play_in_memory(rt.alloc(), words.as_slice(), &mut source)?;
+    Ok(tell(rt, played))
+}
+
+/// Writes what was said to standard output and, where the words are refused, a usage text to standard error.
+/// Gives the exit status.
+fn tell(rt: &(impl Print + Eprint), played: Played<MemoryHost>) -> u8
+    ensures { (result ≡ played.status) ⊎ ((result ≡ 4) ⊎ (result ≡ 5)) }
+{
+    let Played { status, host } = played;
+    let written = rt.write_all(host.said()).is_ok();
+    if status == WORDS_REFUSED {
+        let _unheard = rt.eprint(USAGE);
+    }
+    status_at_end(status, written, host.short() != 0)
+}

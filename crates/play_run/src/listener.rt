@@ -1,0 +1,167 @@
+// A host for tests: it keeps what it is told to say, counts the bytes where others see it, and may fail at one call.
+ghost use Rattle.std.specs.Prelude.{[], false};
+ghost use Rattle.block_host.specs.Disk.{untold, not_told};
+
+use block_host::{Block, Failed, Fresh, Host, Settled, View};
+use std::alloc::{AllocError, Global};
+use std::sync::Arc;
+use std::sync::atomic::{AtomicUsize, Ordering};
+
+#[derive(Drop)]
+pub(crate) struct Listener {
+    pub(crate) said: Vec<u8>,
+    /// How many bytes were said.
+    pub(crate) heard: Arc<AtomicUsize>,
+    /// The number of the `say` that fails, counted from 1; 0 where none does.
+    pub(crate) fails_at: u64,
+    faults: u64,
+}
+
+impl Listener {
+    pub(crate) fn new(alloc: Global) -> Result<Listener, AllocError> {
+        Ok(Listener {
+            said: Vec::new(alloc),
+            heard: Arc::new(alloc, AtomicUsize::new(0))?,
+            fails_at: 0,
+            faults: 0,
+        })
+    }
+}
+
+#[derive(Drop)]
+pub(crate) struct NoView;
+
+#[derive(Drop)]
+pub(crate) struct NoFresh {
+    file: u64,
+}
+
+impl View for NoView {
+    ghost tells = { false };
+
+    ghost content = { λ _. [] };
+
+    ghost faults = { λ _. 0 };
+
+    fn size(&self) -> u64 {
+        0
+    }
+
+    fn read(&mut self, _at: u64, out: &mut Block) -> Result<(), Failed> {
+        *out = Block::zeros();
+        Ok(())
+    }
+}
+
+impl Fresh for NoFresh {
+    ghost tells = { false };
+
+    ghost content = { λ _. [] };
+
+    ghost file = { λ fresh. fresh.file };
+
+    ghost faults = { λ _. 0 };
+
+    fn size(&self) -> u64 {
+        0
+    }
+
+    fn append(&mut self, _blocks: &[Block]) -> Result<(), Failed> {
+        Ok(())
+    }
+
+    fn read(&mut self, _at: u64, _out: &mut Block) -> Result<(), Failed> {
+        Ok(())
+    }
+
+    fn sync(self) -> Result<Settled, Self> {
+        Ok(Settled::new(self.file, None))
+    }
+}
+
+impl Host for Listener {
+    type View = NoView;
+
+    type Fresh = NoFresh;
+
+    ghost tells = { false };
+
+    ghost disk = { λ _. untold };
+
+    ghost faults = { λ host. host.faults };
+
+    ghost greatest = { λ _. 0 };
+
+    ghost lawful = { λ told. not_told told };
+
+    ghost views_tell = { λ told. not_told told };
+
+    ghost fresh_files_tell = { λ told. not_told told };
+
+    fn size(&mut self, _file: u64) -> Result<u64, Failed> {
+        Ok(0)
+    }
+
+    fn read(&mut self, _file: u64, _at: u64, _out: &mut Block) -> Result<(), Failed> {
+        Ok(())
+    }
+
+    fn append(&mut self, _file: u64, _blocks: &[Block]) -> Result<(), Failed> {
+        Ok(())
+    }
+
+    fn put(&mut self, _slot: u64, _block: &Block) -> Result<(), Failed> {
+        Ok(())
+    }
+
+    fn cut(&mut self, _file: u64, _blocks: u64) -> Result<(), Failed> {
+        Ok(())
+    }
+
+    fn sync(&mut self, _file: u64) -> Result<(), Failed> {
+        Ok(())
+    }
+
+    fn next_file(&mut self, _after: u64) -> Result<Option<u64>, Failed> {
+        Ok(None)
+    }
+
+    fn remove(&mut self, _file: u64) -> bool {
+        true
+    }
+
+    fn view(&mut self, _file: u64) -> Result<NoView, Failed> {
+        Ok(NoView)
+    }
+
+    fn renew(&mut self, _file: u64, _view: &mut NoView) -> Result<(), Failed> {
+        Ok(())
+    }
+
+    fn absorb_view(&mut self, _view: NoView) {}
+
+    fn absorb_fresh(&mut self, _fresh: NoFresh) {}
+
+    fn fresh(&mut self, file: u64) -> Result<NoFresh, Failed> {
+        Ok(NoFresh { file })
+    }
+
+    fn adopt(&mut self, _settled: Settled) -> Result<(), Failed> {
+        Ok(())
+    }
+
+    fn say(&mut self, bytes: &[u8]) -> Result<(), Failed> {
+        let fails = self.fails_at == 1;
+        self.fails_at = self.fails_at.saturating_sub(1);
+        if fails || self.said.extend_from_slice(bytes).is_err() {
+            self.faults = self.faults.saturating_add(1);
+            return Err(Failed);
+        }
+        self.heard.store(self.said.len(), Ordering::SeqCst);
+        Ok(())
+    }
+
+    fn faults(&self) -> u64 {
+        self.faults
+    }
+}
