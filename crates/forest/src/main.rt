@@ -3,7 +3,7 @@
 //! written, and with 5 where there is no memory.
 #![tactic(auto)]
 
-ghost use Rattle.std.specs.Prelude.{◌≡◌, ◌⊎◌};
+ghost use Rattle.std.specs.Prelude.{◌≡◌, ◌≤◌, ◌⊎◌, IfOk};
 
 mod answers;
 mod ending;
@@ -33,7 +33,9 @@ fn main(rt: HostRuntime) -> ExitCode {
 }
 
 /// Runs the script of standard input as the words ask, and gives the exit status.
-fn run(rt: &HostRuntime) -> Result<u8, AllocError> {
+fn run(rt: &HostRuntime) -> Result<u8, AllocError>
+    ensures { IfOk result (λ status. status ≤ 5) }
+{
     let words = words::given(rt)?;
     let mut source = StdSource::new(rt.stdin());
     let played = play_in_memory(rt.alloc(), words.as_slice(), &mut source)?;
