@@ -24,3 +24,5 @@ pub use writing::text_of;
 
 #[cfg(test)]
 mod line_tests;
+#[cfg(test)]
+mod reply_tests;
