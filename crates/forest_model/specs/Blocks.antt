@@ -1,5 +1,5 @@
 -- What the sequential store reads of a file: the kinds of its blocks, its headers by their links, and the keys that its records name.
-use Rattle.std.specs.Prelude.{ℕ, ◌+◌, ◌-◌, suc, zero, List, [], ◌∷◌, length, take, drop, map, filter, Option, Some, None, Bool, ◌==◌, nat_le, count_by, slice_index, slice_index_or, slice_range, if◌then◌else◌}
+use Rattle.std.specs.Prelude.{ℕ, ◌+◌, ◌-◌, suc, zero, List, [], ◌∷◌, length, take, drop, map, filter, Option, Some, None, Bool, ◌||◌, ◌==◌, nat_le, count_by, slice_index, slice_index_or, slice_range, if◌then◌else◌}
 use Rattle.std.specs.List.{flat_map}
 use Rattle.std.specs.Option.{option_map_or}
 use Rattle.std.specs.Int.{w16, w32, w64, from_be_bytes}
@@ -30,6 +30,9 @@ kind_of block = slice_index block 4064
 
 abbrev pub is_records : Block → Bool
 is_records block = kind_of block == 1
+
+abbrev pub is_page : Block → Bool
+is_page block = (kind_of block == 2) || (kind_of block == 3)
 
 abbrev pub is_header : Block → Bool
 is_header block = kind_of block == 4

@@ -2,6 +2,7 @@ pub mod Key
 pub mod Limits
 pub mod Documents
 pub mod Stores
+pub mod Stored
 pub mod State
 pub mod Blocks
 pub mod Step

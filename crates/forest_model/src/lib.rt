@@ -1,11 +1,12 @@
 //! The sequential store, which is what every other crate's contracts speak of.
 //!
-//! It has three things, and no file, thread or host among them:
+//! It has four things, and no file, thread or host among them:
 //!
 //! * the plain data of the store's calls, replies and refusals, and of a script's lines and what is told of them;
 //! * the definitions, in `specs`: a state and its rules, the step that answers a call and leaves a state, a
 //!   lane's session, and the run of a script over the blocks of the files that lie under it;
-//! * documents by store and key, as an ordered map.
+//! * documents by store and key, as an ordered map;
+//! * the plain data of what a file keeps: records, headers with their stores, and entries in memory.
 //!
 //! It promises that bytes, sequences and documents are what contracts see of them: bytes and sequences a list,
 //! documents a finite map. Each call answers exactly what the list or the map says. The one refusal is want of
@@ -19,6 +20,7 @@ mod line;
 mod refusal;
 mod sequence;
 mod state;
+mod stored;
 #[cfg(test)]
 mod tests;
 
@@ -29,3 +31,4 @@ pub use line::{Line, Row, Rows, Said, Told, Verb};
 pub use refusal::Refusal;
 pub use sequence::Sequence;
 pub use state::{Commit, Copying, State, Store, StoreList};
+pub use stored::{Entries, Entry, Header, KeyEntry, Rec, Recs, Roots, Stores};

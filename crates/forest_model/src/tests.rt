@@ -40,3 +40,14 @@ fn ample_memory(rt: HostRuntime) -> Result<(), Fail> {
     assert!(rt; copy.get(&apple) == Some(&numbered(alloc, 2, b"green")?));
     Ok(())
 }
+
+#[test]
+fn stores_of_a_header(rt: HostRuntime) -> Result<(), Fail> {
+    let mut stores = Stores::new();
+    stores.push(0, b"default", 7, 3);
+    stores.push(4, b"notes", 2, 1);
+    assert_eq!(rt; stores.len(), 2);
+    assert_eq!(rt; stores.at(1), Some((4, b"notes".as_slice(), 2, 1)));
+    assert_eq!(rt; stores.at(2), None);
+    Ok(())
+}
