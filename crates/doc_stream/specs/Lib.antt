@@ -1,0 +1,4 @@
+pub mod Records
+pub mod OpenBlock
+pub mod Runs
+pub mod Fold

@@ -1,0 +1,9 @@
+//! Records in the record blocks of a file (`docs/FORMAT.md`, records).
+//!
+//! So far it has the open block, into which records are put: whole blocks go out of it as they fill. It promises that the
+//! bytes that went out and those that stay are exactly the records put, one behind another.
+#![tactic(auto)]
+
+mod tail;
+
+pub use tail::Tail;
