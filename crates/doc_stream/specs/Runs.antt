@@ -1,10 +1,10 @@
 -- The records that stand in the blocks of a file.
-use Rattle.std.specs.Prelude.{◌≡◌, ◌≢◌, ◌⊎◌, ℕ, zero, suc, ◌+◌, ◌*◌, List, [], ◌∷◌, ◌++◌, length, slice_get, Some, IsTrue}
+use Rattle.std.specs.Prelude.{◌≡◌, ◌≢◌, ◌⊎◌, ℕ, zero, suc, ◌+◌, ◌*◌, List, [], ◌∷◌, ◌++◌, length, filter, not, slice_get, Some, IsTrue}
 use Rattle.block_host.specs.Sealed.{IsSealed}
 use Rattle.block_host.specs.declared.block.Block.{Block}
 use Rattle.forest_model.specs.declared.stored.Rec.{Rec}
 use Rattle.doc_stream.specs.OpenBlock.{address_of}
-use Rattle.doc_stream.specs.Records.{record_bytes, is_record}
+use Rattle.doc_stream.specs.Records.{record_bytes, is_record, is_empty}
 
 -- what is still to be read of a record block: its number, where its bytes begin, and these
 pub record Piece : Type 0 where
@@ -33,11 +33,9 @@ Spreads bytes (p ∷ pieces) behind =
     ((rest : List ℕ) × (p.bytes ≡ bytes ++ rest) × (behind ≡ record { block = p.block; offset = p.offset + length bytes; bytes = rest } ∷ pieces))
     ⊎ ((more : List ℕ) × (bytes ≡ p.bytes ++ more) × (more ≢ []) × (p.offset + length p.bytes ≡ 4064) × Follows p pieces × Spreads more pieces behind)
 
--- the first pieces that have bytes
-abbrev pub nonempty : List Piece → List Piece
-nonempty [] = []
-nonempty (record { block = block; offset = offset; bytes = [] } ∷ pieces) = nonempty pieces
-nonempty (record { block = block; offset = offset; bytes = b ∷ bytes } ∷ pieces) = record { block = block; offset = offset; bytes = b ∷ bytes } ∷ pieces
+-- the pieces that have bytes left
+abbrev pub left : List Piece → List Piece
+left pieces = filter (λ p. not (is_empty p.bytes)) pieces
 
 -- the address at which the first piece begins
 abbrev pub StartsAt : ℕ → List Piece → Type 0
@@ -46,10 +44,10 @@ StartsAt address (p ∷ pieces) = address ≡ address_of p.block p.offset
 
 -- the pieces are these records one after another, each with its address
 abbrev pub AreRecords : List Piece → List (ℕ × Rec) → Type 0
-AreRecords pieces [] = nonempty pieces ≡ []
+AreRecords pieces [] = left pieces ≡ []
 AreRecords pieces ((address, r) ∷ records) =
-    IsTrue (is_record r) × StartsAt address (nonempty pieces)
-    × ((behind : List Piece) × Spreads (record_bytes r) (nonempty pieces) behind × AreRecords behind records)
+    IsTrue (is_record r) × StartsAt address (left pieces)
+    × ((behind : List Piece) × Spreads (record_bytes r) (left pieces) behind × AreRecords behind records)
 
 -- The records in the record blocks of a file from a block up to, not including, another: so many blocks.
 pub record RecordsOf (revision : ℕ) (file : List Block) (start count : ℕ) (records : List (ℕ × Rec)) : Type 0 where

@@ -1,5 +1,5 @@
 -- The two slots of the meta file, and which of them counts.
-use Rattle.std.specs.Prelude.{◌≡◌, ℕ, ◌+◌, ◌^◌, ◌<◌, List, ◌++◌, Option, Some, None, MatchOption, nat_lt, if◌then◌else◌}
+use Rattle.std.specs.Prelude.{◌≡◌, ℕ, ◌+◌, ◌^◌, ◌<◌, Bool, true, false, List, ◌++◌, Option, Some, None, MatchOption, nat_lt, if◌then◌else◌}
 use Rattle.std.specs.Int.{w64, to_be_bytes}
 use Rattle.block_host.specs.Sealed.{IsSealed}
 use Rattle.block_host.specs.declared.block.Block.{Block}
