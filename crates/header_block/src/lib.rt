@@ -4,9 +4,6 @@
 //! It takes no memory.
 #![tactic(auto)]
 
-mod reader;
-mod rules;
 mod writer;
 
-pub use reader::header_of;
 pub use writer::payload_of;

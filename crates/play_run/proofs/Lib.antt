@@ -1,6 +1,15 @@
-pub mod PlainSteps
-pub mod PlainSaid
-pub mod Runs
-pub mod Taking
-pub mod Ending
-pub mod Ends
+mod Live
+mod SealedBytes
+mod Headers
+mod Blocks
+mod Starting
+mod PlainSteps
+mod PlainSaid
+mod Counted
+mod Runs
+mod Taking
+mod Stopping
+mod Ending
+mod Cuts
+mod Ends
+mod Words

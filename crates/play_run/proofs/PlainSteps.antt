@@ -1,10 +1,9 @@
 -- A line over the plain store is one of the session that it stands for.
-use Rattle.std.proofs.Common.{codes, length-append, ◌≡◌, ℕ, ◌+◌, ◌<◌, ◌≤◌, ◌/◌, ◌%◌, ◌^◌, Bool, true, false, cond, ◌&&◌, not, eqb, List, [], ◌∷◌, ◌++◌, length, replicate, Option, Some, None, refl, sym, ap, subst, ◌∙◌, arith, eq-eqb}
+use Rattle.std.proofs.Common.{codes, append-nil, length-append, ◌≡◌, ℕ, ◌+◌, ◌<◌, ◌≤◌, ◌/◌, ◌%◌, ◌^◌, Bool, true, false, cond, ◌&&◌, not, eqb, List, [], ◌∷◌, ◌++◌, length, Option, Some, None, refl, sym, ap, subst, ◌∙◌, arith, eq-eqb}
 use Rattle.std.proofs.lemmas.Bool.{eqb-true, false≢true}
-use Rattle.std.proofs.lemmas.List.{length-replicate}
 use Rattle.std.specs.Cmp.Lexicographic.{pointwise, nat_list_eq_equiv}
 use Rattle.std.proofs.lemmas.Bool.Decides.{nat_tests}
-use Rattle.std.specs.Prelude.{nat_eq, nat_lt, ◌==◌, IsTrue}
+use Rattle.std.specs.Prelude.{nat_eq, nat_lt, ◌==◌, IsTrue, MatchBool}
 use Rattle.std.specs.FinMap as finite
 use Rattle.forest_model.specs.Limits.{is_wrong_key, is_wrong_body, is_worn, any_worn}
 use Rattle.forest_model.specs.Documents.{Map, Entry, is_same_map, is_same_entry, doc_at}
@@ -25,6 +24,11 @@ use Rattle.play_run.specs.Plain.{Hidden, session_at, state_at, lanes_at, lane_at
 use Rattle.script_text.specs.Words.{is_plain}
 use Rattle.std.specs.List.{list_all}
 use Rattle.play_run.specs.Built.{is_built, is_built_verb, is_own_word}
+use Rattle.block_host.specs.declared.block.Block.{Block}
+use Rattle.doc_stream.specs.Records.{record_bytes}
+use Rattle.play_run.specs.Ledger.{Place, bytes_of, record_of, PutsRecord, PutsHeader, PutsLine}
+use Rattle.play_run.specs.Progress.{IsWritten}
+use Rattle.play_run.proofs.Blocks.{RecordsGrow, records_grow, HeaderGrows, header_grows, length-record}
 use Rattle.play_run.specs.declared.plain.PlainStore.{PlainStore}
 
 -- a small number isn't worn
@@ -129,22 +133,15 @@ told_commit p h file e c q =
     let after : Hidden = record h { old = p.documents; earlier = (state_at p h).last ∷ h.earlier; loose = 0; printed = p.place + 1 } in
     rw (something_is_new p h e, neither_worn (p.commit + 1) (p.place + 1) c q, e) (lanes_told (after_commit p) after _ h.printed)
 
--- The line is one of the session, which the plain store then stands for, and adds few blocks.
-pub record LineGoes (p : PlainStore) (h : Hidden) (file : File) (line : Line) : Type 0 where
+-- The line is one of the session, which the plain store then stands for; what it puts behind the file is few blocks, at
+-- whose end the writer is.
+pub record LineGoes (p : PlainStore) (h : Hidden) (file : File) (at' : Place) (more : List Block) (line : Line) : Type 0 where
   pub after : Hidden
-  pub grown : File
   pub tells : told (session_at p h) file line ≡ Some (session_at (plain_answer p line.verb).1 after, plain_told p line)
   pub stands : Stands (plain_answer p line.verb).1 after
-  pub grows : FileAfter (state_at p h) file (call_in (session_at p h) line) (state_at (plain_answer p line.verb).1 after) grown
-  pub few : length grown ≤ length file + 2
-
--- so many blocks
-blocks : ℕ → File
-blocks n = replicate n []
-
-length-blocks : (n : ℕ) → length (blocks n) ≡ n
-unfolding blocks
-length-blocks n = length-replicate n []
+  pub grows : FileAfter (state_at p h) file (call_in (session_at p h) line) (state_at (plain_answer p line.verb).1 after) (file ++ bytes_of more)
+  pub written : IsWritten after (file ++ bytes_of more) at'
+  pub few : length (bytes_of more) ≤ 2
 
 -- an update is told by the place, and so is none
 rises : (n : ℕ) → eqb (n + 1) (n + 1) ≡ true
@@ -153,7 +150,7 @@ rises n = eq-eqb (n + 1) (n + 1) refl
 stays : (n : ℕ) → eqb n (n + 1) ≡ false
 stays n = grind (arith, nat_tests)
 
-key_fits : (key : List ℕ) → is_wrong_key key ≡ false → length key ≤ 3500
+pub key_fits : (key : List ℕ) → is_wrong_key key ≡ false → length key ≤ 3500
 key_fits key k = grind (arith, nat_tests)
 
 body_fits : (body : List ℕ) → length body ≤ 3500 → is_wrong_body [] body ≡ false
@@ -162,14 +159,22 @@ body_fits body b = grind (arith, nat_tests)
 record_fits : (key body : List ℕ) → length key ≤ 3500 → length body ≤ 3500 → record_length key [] body ≤ 7024
 record_fits key body k b = omega arith
 
-set_goes : (p : PlainStore) (h : Hidden) (file : File) (key body : List ℕ) → Stands p h → is_wrong_key key ≡ false → length body ≤ 3500
-    → p.place + 1 < 2 ^ 40 → length file < 2 ^ 31 → LineGoes p h file (record { lane = 0; verb = Set key [] body })
-set_goes p h file key body s k b q f =
-    let n = (h.loose + record_length key [] body) / 4064 in
+-- what was there before, and nothing more
+same_file : (h : Hidden) (file : File) (at at' : Place) (printed : ℕ) → at' ≡ at → IsWritten h file at → IsWritten (record h { printed = printed }) (file ++ []) at'
+same_file h file at at' printed same w =
+    subst (λ (a : Place). IsWritten (record h { printed = printed }) (file ++ []) a) (sym same)
+    (subst (λ (f : File). IsWritten (record h { printed = printed }) f at) (sym (append-nil file))
+    (record { loose = w.loose; number = w.number; header = w.header; from = w.from }))
+
+set_goes : (p : PlainStore) (h : Hidden) (file : File) (at at' : Place) (more : List Block) (key body : List ℕ) → Stands p h → IsWritten h file at
+    → PutsRecord (record_of (p.seq + 1) key [] body) at at' more → is_wrong_key key ≡ false → length body ≤ 3500
+    → p.place + 1 < 2 ^ 40 → length file < 2 ^ 31 → LineGoes p h file at' more (record { lane = 0; verb = Set key [] body })
+set_goes p h file at at' more key body s w puts k b q f =
     let fit = record_fits key body (key_fits key k) b in
+    let len : length (record_bytes (record_of (p.seq + 1) key [] body)) ≡ record_length key [] body = length-record (record_of (p.seq + 1) key [] body) in
+    let g : RecordsGrow h file at' (record_length key [] body) more = records_grow h file at at' (record_bytes (record_of (p.seq + 1) key [] body)) (record_length key [] body) more w puts.bytes puts.header_at len in
     record {
       after = record h { loose = (h.loose + record_length key [] body) % 4064; printed = p.place + 1 };
-      grown = file ++ blocks n;
       tells = told_set p h file key body k (body_fits body b) (omega (arith, s.seq)) q f s.open_block fit;
       stands = record {
         seq = omega (arith, s.seq);
@@ -178,54 +183,50 @@ set_goes p h file key body s k b q f =
         same = λ e. absurd (omega (arith, s.committed, e));
         open_block = omega arith;
       };
-      grows = rw (rises p.place) (blocks n, refl, length-blocks n);
-      few = omega (arith, length-append file (blocks n), length-blocks n, s.open_block, fit);
+      grows = rw (rises p.place) (record { records = bytes_of more; all = refl; count = g.count; kind = g.kind });
+      written = record { loose = g.loose; number = g.number; header = g.header; from = g.from };
+      few = omega (arith, g.count, s.open_block, fit);
     }
 
-get_goes : (p : PlainStore) (h : Hidden) (file : File) (key : List ℕ) → Stands p h → is_wrong_key key ≡ false → LineGoes p h file (get_line key)
+get_goes : (p : PlainStore) (h : Hidden) (file : File) (at at' : Place) (more : List Block) (key : List ℕ) → Stands p h → IsWritten h file at
+    → (more ≡ []) × (at' ≡ at) → is_wrong_key key ≡ false → LineGoes p h file at' more (get_line key)
 unfolding get_line
-get_goes p h file key s k = record {
-  after = record h { printed = p.place };
-  grown = file;
-  tells = told_get p h file key k (doc_at p.documents 0 key) refl;
-  stands = record { seq = s.seq; committed = s.committed; commit = s.commit; same = s.same; open_block = s.open_block };
-  grows = rw (stays p.place) refl;
-  few = omega arith;
-}
+get_goes p h file at at' more key s w puts k =
+    subst (λ (m : List Block). LineGoes p h file at' m (get_line key)) (sym puts.0)
+    (record {
+      after = record h { printed = p.place };
+      tells = told_get p h file key k (doc_at p.documents 0 key) refl;
+      stands = record { seq = s.seq; committed = s.committed; commit = s.commit; same = s.same; open_block = s.open_block };
+      grows = rw (stays p.place) (append-nil file);
+      written = same_file h file at at' p.place puts.1 w;
+      few = omega arith;
+    })
 
-at_most_one : (b : Bool) → cond b 0 1 ≤ 1
-at_most_one true = omega arith
-at_most_one false = omega arith
-
-commit_goes : (p : PlainStore) (h : Hidden) (file : File) → Stands p h → p.place + 1 < 2 ^ 40 → (new : Bool) → eqb p.seq p.committed ≡ new → LineGoes p h file commit_line
+commit_goes : (p : PlainStore) (h : Hidden) (file : File) (at at' : Place) (more : List Block) → Stands p h → IsWritten h file at → p.place + 1 < 2 ^ 40 → length file < 2 ^ 31
+    → (new : Bool) → eqb p.seq p.committed ≡ new → MatchBool new ((more ≡ []) × (at' ≡ at)) (PutsHeader (after_commit p) at at' more) → LineGoes p h file at' more commit_line
 unfolding commit_line
-commit_goes p h file s q true e = record {
-  after = record h { printed = p.place };
-  grown = file;
-  tells = told_commit_again p h file e (s.same (eqb-true p.seq p.committed e));
-  stands = rw e (record { seq = s.seq; committed = s.committed; commit = s.commit; same = s.same; open_block = s.open_block });
-  grows = rw (e, stays p.place) refl;
-  few = omega arith;
-}
-commit_goes p h file s q false e = record {
-  after = record h { old = p.documents; earlier = (state_at p h).last ∷ h.earlier; loose = 0; printed = p.place + 1 };
-  grown = file ++ bytes_block ++ [] ++ [] ∷ [];
-  tells = told_commit p h file e (omega (arith, s.commit)) q ∙ rw e refl;
-  stands = rw e (record { seq = omega (arith, s.seq); committed = omega arith; commit = omega (arith, s.commit); same = λ _. refl; open_block = omega arith });
-  grows = rw (e, rises p.place) (record { records = bytes_block; nodes = []; header = []; all = refl; open_block = length-blocks _; flushed = λ h. absurd (omega arith) });
-  few = omega (
-    arith,
-    length-append (file ++ bytes_block ++ []) ([] ∷ []),
-    length-append (file ++ bytes_block) [],
-    length-append file bytes_block,
-    length-blocks (cond (eqb h.loose 0) 0 1),
-    at_most_one (eqb h.loose 0),
-  );
-} where
-  bytes_block : File
-  bytes_block = blocks (cond (eqb h.loose 0) 0 1)
+commit_goes p h file at at' more s w q f true e puts =
+    subst (λ (m : List Block). LineGoes p h file at' m commit_line) (sym puts.0)
+    (record {
+      after = record h { printed = p.place };
+      tells = told_commit_again p h file e (s.same (eqb-true p.seq p.committed e));
+      stands = rw e (record { seq = s.seq; committed = s.committed; commit = s.commit; same = s.same; open_block = s.open_block });
+      grows = rw (e, stays p.place) (append-nil file);
+      written = same_file h file at at' p.place puts.1 w;
+      few = omega arith;
+    })
+commit_goes p h file at at' more s w q f false e puts =
+    let g : HeaderGrows (state_at p h) h file at' more = header_grows p h file at at' more w puts (omega (arith, s.commit)) f in
+    record {
+      after = record h { old = p.documents; earlier = (state_at p h).last ∷ h.earlier; loose = 0; printed = p.place + 1 };
+      tells = told_commit p h file e (omega (arith, s.commit)) q ∙ rw e refl;
+      stands = rw e (record { seq = omega (arith, s.seq); committed = omega arith; commit = omega (arith, s.commit); same = λ _. refl; open_block = omega arith });
+      grows = rw (e, rises p.place) g.adds;
+      written = record { loose = g.loose; number = g.number; header = g.header; from = g.from };
+      few = g.few;
+    }
 
-both : (a b : Bool) → IsTrue (a && b) → (a ≡ true) × (b ≡ true)
+pub both : (a b : Bool) → IsTrue (a && b) → (a ≡ true) × (b ≡ true)
 both true true t = (refl, refl)
 both true false t = absurd (false≢true t)
 both false b t = absurd (false≢true t)
@@ -234,29 +235,31 @@ off : (b : Bool) → not b ≡ true → b ≡ false
 off true t = absurd (false≢true t)
 off false t = refl
 
-no_bytes : (meta : List ℕ) → eqb (length meta) 0 ≡ true → meta ≡ []
+pub no_bytes : (meta : List ℕ) → eqb (length meta) 0 ≡ true → meta ≡ []
 no_bytes [] e = refl
 no_bytes (b ∷ meta) e = absurd (omega (arith, eqb-true _ _ e))
 
-right_length : (bytes : List ℕ) → is_own_word bytes ≡ true → is_wrong_key bytes ≡ false
+pub right_length : (bytes : List ℕ) → is_own_word bytes ≡ true → is_wrong_key bytes ≡ false
 right_length bytes own =
     let plain = both (not (is_wrong_key bytes) && list_all is_plain bytes) (not (pointwise nat_eq bytes (codes "-"))) own in
     off (is_wrong_key bytes) (both (not (is_wrong_key bytes)) (list_all is_plain bytes) plain.0).0
 
-verb_goes : (p : PlainStore) (h : Hidden) (file : File) (verb : Verb) → Stands p h → is_built_verb verb ≡ true → p.place + 1 < 2 ^ 40 → length file < 2 ^ 31
-    → LineGoes p h file (record { lane = 0; verb = verb })
+verb_goes : (p : PlainStore) (h : Hidden) (file : File) (at at' : Place) (more : List Block) (verb : Verb) → Stands p h → IsWritten h file at → PutsLine p verb at at' more
+    → is_built_verb verb ≡ true → p.place + 1 < 2 ^ 40 → length file < 2 ^ 31 → LineGoes p h file at' more (record { lane = 0; verb = verb })
 unfolding get_line commit_line
-verb_goes p h file (Set key meta body) s built q f =
+verb_goes p h file at at' more (Set key meta body) s w puts built q f =
     let outer = both (is_own_word key && eqb (length meta) 0) (is_own_word body) built in
     let inner = both (is_own_word key) (eqb (length meta) 0) outer.0 in
-    subst (λ m. LineGoes p h file (record { lane = 0; verb = Set key m body })) (sym (no_bytes meta inner.1))
-    (set_goes p h file key body s (right_length key inner.0) (key_fits body (right_length body outer.1)) q f)
-verb_goes p h file (Get key) s built q f = get_goes p h file key s (right_length key built)
-verb_goes p h file Commit s built q f = commit_goes p h file s q (eqb p.seq p.committed) refl
-verb_goes p h file verb s built q f = absurd (false≢true built)
+    let none = no_bytes meta inner.1 in
+    subst (λ m. LineGoes p h file at' more (record { lane = 0; verb = Set key m body })) (sym none)
+    (set_goes p h file at at' more key body s w (subst (λ m. PutsRecord (record_of (p.seq + 1) key m body) at at' more) none puts) (right_length key inner.0) (key_fits body (right_length body outer.1)) q f)
+verb_goes p h file at at' more (Get key) s w puts built q f = get_goes p h file at at' more key s w puts (right_length key built)
+verb_goes p h file at at' more Commit s w puts built q f = commit_goes p h file at at' more s w q f (eqb p.seq p.committed) refl puts
+verb_goes p h file at at' more verb s w puts built q f = absurd (false≢true built)
 
-pub line_goes : (p : PlainStore) (h : Hidden) (file : File) (line : Line) → Stands p h → IsTrue (is_built line) → p.place + 1 < 2 ^ 40 → length file < 2 ^ 31 → LineGoes p h file line
-line_goes p h file line s built q f =
+pub line_goes : (p : PlainStore) (h : Hidden) (file : File) (at at' : Place) (more : List Block) (line : Line) → Stands p h → IsWritten h file at → PutsLine p line.verb at at' more
+    → IsTrue (is_built line) → p.place + 1 < 2 ^ 40 → length file < 2 ^ 31 → LineGoes p h file at' more line
+line_goes p h file at at' more line s w puts built q f =
     let parts = both (eqb line.lane 0) (is_built_verb line.verb) built in
-    subst (λ n. LineGoes p h file (record { lane = n; verb = line.verb })) (sym (eqb-true line.lane 0 parts.0))
-    (verb_goes p h file line.verb s parts.1 q f)
+    subst (λ n. LineGoes p h file at' more (record { lane = n; verb = line.verb })) (sym (eqb-true line.lane 0 parts.0))
+    (verb_goes p h file at at' more line.verb s w puts parts.1 q f)

@@ -1,5 +1,7 @@
 -- How a run of lines goes on, and what it says.
-use Rattle.std.proofs.Common.{◌≡◌, ℕ, suc, ◌+◌, ◌<◌, ◌≤◌, ◌^◌, List, [], ◌∷◌, ◌++◌, length, None, Bool, true, false, cond, eqb, refl, sym, ap, subst, ◌∙◌, arith, append_assoc, append-nil, length-append, inl}
+use Rattle.std.proofs.Common.{◌≡◌, ℕ, suc, ◌+◌, ◌<◌, ◌≤◌, ◌^◌, List, [], ◌∷◌, ◌++◌, length, None, Bool, true, false, cond, eqb, refl, sym, ap, subst, ◌∙◌, arith, append_assoc, append-nil, length-append, take, inl}
+use Rattle.std.proofs.Math.Seq.{take-append-add, take-length}
+use Rattle.std.proofs.lemmas.Bool.{false≢true}
 use Rattle.std.specs.Prelude.{IsTrue, ◌==◌}
 use Rattle.forest_model.specs.Blocks.{File}
 use Rattle.forest_model.specs.Session.{Session, Lane, first_lane, with_lane}
@@ -14,13 +16,14 @@ use Rattle.forest_model.specs.declared.line.Verb.{Verb}
 use Rattle.forest_model.specs.declared.line.Verb.TheVariants.{Set, Commit}
 use Rattle.play_run.specs.Built.{is_built}
 use Rattle.play_run.specs.Plain.{Hidden, session_at, state_at, lanes_at, lane_at, Stands, plain_answer, plain_told, after_commit, new_plain}
-use Rattle.play_run.specs.Script.{start, IsTaken, AreTaken, IsText, ended, replies, reply_line}
-use Rattle.play_run.specs.Progress.{Reaches, HasRun, HasTaken, HasHeard, RunsText}
+use Rattle.play_run.specs.Ledger.{Place, Seen, PutsLine, bytes_of, new_place}
+use Rattle.play_run.specs.Script.{start, IsTaken, AreTaken, IsText, ended, replies, reply_line, HasSaid}
+use Rattle.play_run.specs.Progress.{Reaches, HasRun, HasTaken, HasHeard, HasHeardOf, HasHeardPart, RunsText, IsWritten, IsFirst, IsStart}
 use Rattle.play_run.specs.declared.plain.PlainStore.{PlainStore}
 use Rattle.play_run.proofs.PlainSteps.{LineGoes, line_goes}
 
 -- one line more
-Run-push : (w : Session) (file : File) (lines : List Line) (told : List Told) (mid next : Session) (at grown : File) (line : Line) (t : Told)
+pub Run-push : (w : Session) (file : File) (lines : List Line) (told : List Told) (mid next : Session) (at grown : File) (line : Line) (t : Told)
     → Run w file lines told mid at → sessions.Tells mid at line next t → FileAfter mid.state at (call_in mid line) next.state grown
     → Run w file (lines ++ line ∷ []) (told ++ t ∷ []) next grown
 Run-push w file [] [] mid next at grown line t run tells grows =
@@ -50,47 +53,40 @@ new_stands : Stands new_plain new_hidden
 unfolding new_hidden
 new_stands = record { seq = omega arith; committed = omega arith; commit = omega arith; same = λ _. refl; open_block = omega arith }
 
+new_written : (first : File) → IsFirst first → IsWritten new_hidden first new_place
+unfolding new_hidden
+new_written first is = record { loose = refl; number = sym is.one; header = is.header; from = is.from }
+
 -- before the first line
-pub runs_none : (base : List ℕ) → HasRun base base [] new_plain 0
-runs_none base = record {
+pub runs_none : (tells : Bool) (base : Seen) → IsStart tells base → HasRun tells base base [] new_plain new_place 0
+runs_none tells base s = record {
   lines = [];
   told = [];
   taken = tt;
   counted = refl;
   places = omega arith;
-  reaches = λ first one. record { hidden = new_hidden; file = first; run = (starts, refl); stands = new_stands; few = omega (arith, one) };
-  heard_all = sym (append-nil base);
+  first = s.first;
+  reaches = record { hidden = new_hidden; file = s.first; run = (starts, refl); stands = new_stands; written = new_written s.first s.is; few = omega (arith, s.is.one) };
+  said_is = λ told. sym (append-nil base.said);
+  first_is = s.same;
+  last_is = s.same;
 }
-
--- a line more is reached
-reach_more : (first : File) (lines : List Line) (told : List Told) (p : PlainStore) (line : Line)
-    → Reaches first lines told p → IsTrue (is_built line) → p.place + 1 < 2 ^ 40 → length lines < 2 ^ 27
-    → Reaches first (lines ++ line ∷ []) (told ++ plain_told p line ∷ []) (plain_answer p line.verb).1
-reach_more first lines told p line r built small few =
-    let goes : LineGoes p r.hidden r.file line = line_goes p r.hidden r.file line r.stands built small (omega (arith, r.few)) in
-    record {
-      hidden = goes.after;
-      file = goes.grown;
-      run = Run-push start first lines told (session_at p r.hidden) (session_at (plain_answer p line.verb).1 goes.after) r.file goes.grown line (plain_told p line) r.run (inl goes.tells) goes.grows;
-      stands = goes.stands;
-      few = omega (arith, r.few, goes.few, length-append lines (line ∷ []));
-    }
 
 -- ---- lists that grow by one
 
-same_length : (lines : List Line) (texts : List (List ℕ)) → AreTaken lines texts → length lines ≡ length texts
+pub same_length : (lines : List Line) (texts : List (List ℕ)) → AreTaken lines texts → length lines ≡ length texts
 same_length [] [] h = refl
 same_length (l ∷ lines) (t ∷ texts) h = ap suc (same_length lines texts h.2)
 same_length [] (t ∷ texts) h = absurd h
 same_length (l ∷ lines) [] h = absurd h
 
-AreTaken-push : (lines : List Line) (texts : List (List ℕ)) (line : Line) (text : List ℕ) → AreTaken lines texts → IsTaken line text → IsText text → AreTaken (lines ++ line ∷ []) (texts ++ text ∷ [])
+pub AreTaken-push : (lines : List Line) (texts : List (List ℕ)) (line : Line) (text : List ℕ) → AreTaken lines texts → IsTaken line text → IsText text → AreTaken (lines ++ line ∷ []) (texts ++ text ∷ [])
 AreTaken-push [] [] line text h is plain = (is, plain, tt)
 AreTaken-push (l ∷ lines) (t ∷ texts) line text h is plain = (h.0, h.1, AreTaken-push lines texts line text h.2 is plain)
 AreTaken-push [] (t ∷ texts) line text h is plain = absurd h
 AreTaken-push (l ∷ lines) [] line text h is plain = absurd h
 
-replies-push : (told : List Told) (t : Told) → replies (told ++ t ∷ []) ≡ replies told ++ reply_line t
+pub replies-push : (told : List Told) (t : Told) → replies (told ++ t ∷ []) ≡ replies told ++ reply_line t
 replies-push [] t = append-nil (reply_line t)
 replies-push (u ∷ told) t = ap (λ xs. reply_line u ++ xs) (replies-push told t) ∙ sym (append_assoc (reply_line u) (replies told) (reply_line t))
 
@@ -104,54 +100,114 @@ commit_rises : (p : PlainStore) (b : Bool) → (cond {A = Said × PlainStore} b 
 commit_rises p true = omega arith
 commit_rises p false = omega arith
 
-rises_once : (p : PlainStore) (verb : Verb) → (plain_answer p verb).1.place ≤ p.place + 1
+pub rises_once : (p : PlainStore) (verb : Verb) → (plain_answer p verb).1.place ≤ p.place + 1
 rises_once p (Set key meta body) = omega arith
 rises_once p Commit = commit_rises p (eqb p.seq p.committed)
 rises_once p verb = omega arith
 
-pub run_more : (base heard : List ℕ) (texts : List (List ℕ)) (p : PlainStore) (count : ℕ) (line : Line) (text : List ℕ)
-    → HasRun base heard texts p count → IsTaken line text → IsText text → count < 2 ^ 27
-    → HasRun base (heard ++ reply_line (plain_told p line)) (texts ++ text ∷ []) (plain_answer p line.verb).1 (count + 1)
-run_more base heard texts p count line text r is plain small =
-    let long : length r.lines ≡ length texts = same_length r.lines texts r.taken in
-    record {
-      lines = r.lines ++ line ∷ [];
-      told = r.told ++ plain_told p line ∷ [];
-      taken = AreTaken-push r.lines texts line text r.taken is plain;
-      counted = omega (arith, length-append texts (text ∷ []), r.counted);
-      places = omega (arith, rises_once p line.verb, r.places);
-      reaches = λ first one. reach_more first r.lines r.told p line (r.reaches first one) is.built (omega (arith, r.places)) (omega (arith, long, r.counted));
-      heard_all = rw (r.heard_all, replies-push r.told (plain_told p line)) (append_assoc base (replies r.told) (reply_line (plain_told p line)));
-    }
-
 -- the lines run so far are a run
-pub heard_run : (base heard : List ℕ) (texts : List (List ℕ)) (p : PlainStore) (count : ℕ) → HasRun base heard texts p count → HasHeard base heard texts
-heard_run base heard texts p count r = record {
+pub heard_run : (tells : Bool) (base heard : Seen) (texts : List (List ℕ)) (p : PlainStore) (at : Place) (count : ℕ) → HasRun tells base heard texts p at count → HasHeard tells base heard texts
+heard_run tells base heard texts p at count r = record {
+  first = r.first;
+  last = r.reaches.file;
   said = replies r.told;
-  is = r.heard_all;
-  said_all = record {
-    lines = r.lines;
-    told = r.told;
-    taken = r.taken;
-    run = λ first one. let at = r.reaches first one in (session_at p at.hidden, at.file, at.run);
-    is = refl;
-  };
+  said_all = record { lines = r.lines; told = r.told; taken = r.taken; after = session_at p r.reaches.hidden; run = r.reaches.run; is = refl };
+  said_is = r.said_is;
+  first_is = r.first_is;
+  last_is = r.last_is;
 }
 
--- the same by what the calls of a player say
-pub run_more_by : (base heard heard' : List ℕ) (texts : List (List ℕ)) (p q : PlainStore) (count : ℕ) (text bytes : List ℕ) (t : Told)
-    → HasRun base heard texts p count → RunsText text p q t → IsText text → count < 2 ^ 27 → bytes ≡ reply_line t → heard' ≡ heard ++ bytes
-    → HasRun base heard' (texts ++ text ∷ []) q (count + 1)
-run_more_by base heard heard' texts p q count text bytes t r runs plain small bytes_are heard_are =
-    let said : heard' ≡ heard ++ reply_line (plain_told p runs.line) = heard_are ∙ ap (λ xs. heard ++ xs) (bytes_are ∙ ap reply_line runs.told) in
-    subst (λ h. HasRun base h (texts ++ text ∷ []) q (count + 1)) (sym said)
-    (subst (λ (s : PlainStore). HasRun base (heard ++ reply_line (plain_told p runs.line)) (texts ++ text ∷ []) s (count + 1)) (sym runs.stored)
-    (run_more base heard texts p count runs.line text r runs.taken plain small))
+-- the same, where only what was said stays as it was
+pub heard_of : (tells : Bool) (base heard heard' : Seen) (texts : List (List ℕ)) → HasHeard tells base heard texts → (IsTrue tells → heard'.said ≡ heard.said) → HasHeardOf tells base heard' texts
+heard_of tells base heard heard' texts h same = record {
+  first = h.first;
+  last = h.last;
+  said = h.said;
+  said_all = h.said_all;
+  said_is = λ told. same told ∙ h.said_is told;
+  first_is = h.first_is;
+}
+
+-- and where only the first of its bytes were said
+pub heard_part : (tells : Bool) (base heard heard' : Seen) (texts : List (List ℕ)) → HasHeard tells base heard texts → (IsTrue tells → heard'.said ≡ heard.said) → HasHeardPart tells base heard' texts
+heard_part tells base heard heard' texts h same = record {
+  first = h.first;
+  last = h.last;
+  whole = h.said;
+  said_all = h.said_all;
+  n = length h.said;
+  said_is = λ told. same told ∙ h.said_is told ∙ ap (λ xs. base.said ++ xs) (sym (take-length h.said));
+  first_is = h.first_is;
+}
+
+-- one line more is run, and its reply is said
+abbrev pub run_more : (tells : Bool) (base heard middle heard' : Seen) (texts : List (List ℕ)) (p q : PlainStore) (at at' : Place) (count : ℕ) (text bytes : List ℕ) (t : Told)
+    → HasRun tells base heard texts p at count → RunsText tells text p q at at' heard middle t → IsText text → count < 2 ^ 27 → bytes ≡ reply_line t
+    → (IsTrue tells → heard'.said ≡ middle.said ++ bytes) → (IsTrue tells → heard'.file ≡ middle.file) → HasRun tells base heard' (texts ++ text ∷ []) q at' (count + 1)
+run_more tells base heard middle heard' texts p q at at' count text bytes t r runs plain small bytes_are heard_are file_is =
+    let line = runs.line in
+    let goes = runs.goes.1 in
+    let before = r.reaches in
+    let long : length r.lines ≡ length texts = same_length r.lines texts r.taken in
+    let few : length before.file < 2 ^ 31 = omega (arith, before.few, long, r.counted, small) in
+    let l : LineGoes p before.hidden before.file at' goes.more line =
+        line_goes p before.hidden before.file at at' goes.more line before.stands before.written goes.puts runs.taken.built (omega (arith, r.places, small)) few in
+    record {
+      lines = r.lines ++ line ∷ [];
+      told = r.told ++ t ∷ [];
+      taken = AreTaken-push r.lines texts line text r.taken runs.taken plain;
+      counted = omega (arith, length-append texts (text ∷ []), r.counted);
+      places = omega (arith, ap (λ (s : PlainStore). s.place) goes.stored, rises_once p line.verb, r.places);
+      first = r.first;
+      reaches = record {
+        hidden = l.after;
+        file = before.file ++ bytes_of goes.more;
+        run = subst (λ (s : PlainStore). Run start r.first (r.lines ++ line ∷ []) (r.told ++ t ∷ []) (session_at s l.after) (before.file ++ bytes_of goes.more)) (sym goes.stored)
+            (subst (λ (u : Told). Run start r.first (r.lines ++ line ∷ []) (r.told ++ u ∷ []) (session_at (plain_answer p line.verb).1 l.after) (before.file ++ bytes_of goes.more)) (sym runs.goes.0)
+            (Run-push start r.first r.lines r.told (session_at p before.hidden) (session_at (plain_answer p line.verb).1 l.after) before.file (before.file ++ bytes_of goes.more) line (plain_told p line) before.run (inl l.tells) l.grows));
+        stands = subst (λ (s : PlainStore). Stands s l.after) (sym goes.stored) l.stands;
+        written = l.written;
+        few = omega (arith, before.few, l.few, length-append r.lines (line ∷ []), length-append before.file (bytes_of goes.more));
+      };
+      said_is = λ told. heard_are told ∙ ap (λ xs. xs ++ bytes) (goes.silent told ∙ r.said_is told) ∙ ap (λ xs. (base.said ++ replies r.told) ++ xs) bytes_are
+          ∙ append_assoc base.said (replies r.told) (reply_line t) ∙ ap (λ xs. base.said ++ xs) (sym (replies-push r.told t));
+      first_is = r.first_is;
+      last_is = λ told. ap (λ xs. xs ++ bytes_of goes.more) (r.last_is told) ∙ sym (goes.file told) ∙ sym (file_is told);
+    }
+
+-- the same where only the first bytes of the reply are said
+pub run_part : (tells : Bool) (base heard middle heard' : Seen) (texts : List (List ℕ)) (p q : PlainStore) (at at' : Place) (count : ℕ) (text bytes : List ℕ) (t : Told)
+    → HasRun tells base heard texts p at count → RunsText tells text p q at at' heard middle t → IsText text → count < 2 ^ 27 → bytes ≡ reply_line t
+    → (IsTrue tells → (n : ℕ) × (n ≤ length bytes) × (heard'.said ≡ middle.said ++ take n bytes)) → HasHeardPart tells base heard' (texts ++ text ∷ [])
+run_part tells base heard middle heard' texts p q at at' count text bytes t r runs plain small bytes_are part =
+    let whole : Seen = record { said = middle.said ++ bytes; file = middle.file } in
+    let m = run_more tells base heard middle whole texts p q at at' count text bytes t r runs plain small bytes_are (λ _. refl) (λ _. refl) in
+    let said : List ℕ = replies (r.told ++ t ∷ []) in
+    let said_all : HasSaid r.first m.reaches.file (texts ++ text ∷ []) said =
+        record { lines = m.lines; told = m.told; taken = m.taken; after = session_at q m.reaches.hidden; run = m.reaches.run; is = refl } in
+    by tells r.first_is (λ told. runs.goes.1.silent told ∙ r.said_is told) part r.first m.reaches.file said said_all (replies-push r.told t ∙ ap (λ xs. replies r.told ++ xs) (sym bytes_are)) where
+      by : (b : Bool) → (IsTrue b → r.first ≡ base.file) → (IsTrue b → middle.said ≡ base.said ++ replies r.told) → (IsTrue b → (n : ℕ) × (n ≤ length bytes) × (heard'.said ≡ middle.said ++ take n bytes))
+          → (first last : File) (said : List ℕ) → HasSaid r.first last (texts ++ text ∷ []) said → said ≡ replies r.told ++ bytes → HasHeardPart b base heard' (texts ++ text ∷ [])
+      by true first_is before part first last said said_all is =
+          let p = part refl in
+          record {
+            first = r.first;
+            last = last;
+            whole = said;
+            said_all = said_all;
+            n = length (replies r.told) + p.0;
+            said_is = λ _. p.2 ∙ ap (λ xs. xs ++ take p.0 bytes) (before refl) ∙ append_assoc base.said (replies r.told) (take p.0 bytes)
+                ∙ ap (λ xs. base.said ++ xs) (sym (take-append-add (replies r.told) bytes p.0)) ∙ ap (λ xs. base.said ++ take (length (replies r.told) + p.0) xs) (sym is);
+            first_is = first_is;
+          }
+      by false first_is before part first last said said_all is =
+          record { first = r.first; last = last; whole = said; said_all = said_all; n = 0; said_is = λ told. absurd (false≢true told); first_is = first_is }
 
 -- before the first byte
-pub before_first : (base heard line_open : List ℕ) (p : PlainStore) → heard ≡ base → p ≡ new_plain → line_open ≡ [] → HasTaken base heard [] p line_open 0
-before_first base heard line_open p same store none =
-    subst (λ (s : PlainStore). HasTaken base heard [] s line_open 0) (sym store)
-    (subst (λ o. HasTaken base heard [] new_plain o 0) (sym none)
-    (subst (λ h. HasTaken base h [] new_plain [] 0) (sym same)
-    (record { texts = []; cut = refl; no_newline = tt; run = runs_none base })))
+pub before_first : (tells : Bool) (base : Seen) (p : PlainStore) (at : Place) (line_open : List ℕ) → IsStart tells base → p ≡ new_plain → at ≡ new_place → line_open ≡ []
+    → HasTaken tells base base [] p at line_open 0
+before_first tells base p at line_open start store place none =
+    subst (λ (s : PlainStore). HasTaken tells base base [] s at line_open 0) (sym store)
+    (subst (λ (a : Place). HasTaken tells base base [] new_plain a line_open 0) (sym place)
+    (subst (λ o. HasTaken tells base base [] new_plain new_place o 0) (sym none)
+    (record { texts = []; cut = refl; no_newline = tt; run = runs_none tells base start })))

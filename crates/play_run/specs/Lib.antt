@@ -1,5 +1,6 @@
 pub mod Built
 pub mod Plain
+pub mod Ledger
 pub mod Script
-pub mod Progress
 pub mod Play
+pub mod Progress

@@ -1,10 +1,10 @@
 -- What the plain store of the first path stands for, and what it answers.
-use Rattle.std.specs.Prelude.{◌≡◌, ℕ, ◌+◌, ◌<◌, ◌≤◌, false, ◌==◌, List, [], ◌∷◌, codes, None, if◌then◌else◌}
+use Rattle.std.specs.Prelude.{◌≡◌, ℕ, ◌+◌, ◌*◌, ◌<◌, ◌≤◌, false, ◌==◌, List, [], ◌∷◌, codes, Option, None, sum_by, if◌then◌else◌}
 use Rattle.std.specs.Option.{option_map_or}
 use Rattle.std.specs.FinMap as finite
-use Rattle.forest_model.specs.Documents.{Map, key_at, doc_of, doc_at}
+use Rattle.forest_model.specs.Documents.{Map, Entry, key_at, doc_of, doc_at}
 use Rattle.forest_model.specs.State.{usual_limits}
-use Rattle.forest_model.specs.Step.{found_of}
+use Rattle.forest_model.specs.Step.{found_of, record_length}
 use Rattle.forest_model.specs.Session.{Session, Lane, with_lane, first_lane}
 use Rattle.forest_model.specs.declared.line.Line.{Line}
 use Rattle.forest_model.specs.declared.line.Told.{Told}
@@ -16,6 +16,7 @@ use Rattle.forest_model.specs.declared.refusal.Refusal.TheVariants.{NotFound}
 use Rattle.forest_model.specs.declared.state.Store.{Store}
 use Rattle.forest_model.specs.declared.state.Commit.{Commit as CommitRow}
 use Rattle.forest_model.specs.declared.state.State.{State}
+use Rattle.forest_model.specs.declared.documents.Doc.{Doc}
 use Rattle.play_run.specs.declared.plain.PlainStore.{PlainStore}
 
 -- What no reply of the first path tells: the documents of the last commit, the commits before it, the bytes in the open block, and the place printed last.
@@ -65,10 +66,26 @@ pub record Stands (p : PlainStore) (h : Hidden) : Type 0 where
   pub same : p.seq ≡ p.committed → p.documents ≡ h.old
   pub open_block : h.loose < 4064
 
+-- the bytes of a document's record, and of the records of all documents
+abbrev pub live_of : Entry → ℕ
+live_of e = record_length e.0.key e.1.meta e.1.body
+
+unfoldable pub live_bytes : Map → ℕ
+live_bytes documents = sum_by live_of (finite.entries documents)
+
+-- the bytes of the record of a key's document, where there is one
+abbrev pub replaced : List ℕ → Option Doc → ℕ
+replaced key before = option_map_or (λ d. record_length key d.meta d.body) before 0
+
+-- the documents with one set
+abbrev pub documents_with : PlainStore → List ℕ → List ℕ → List ℕ → Map
+documents_with p key meta body = finite.insert p.documents (key_at 0 key) (doc_of (p.seq + 1) meta body)
+
 -- the plain store after a set, and after a commit that is an update
 abbrev pub after_set : PlainStore → List ℕ → List ℕ → List ℕ → PlainStore
 after_set p key meta body = record p {
-  documents = finite.insert p.documents (key_at 0 key) (doc_of (p.seq + 1) meta body);
+  documents = documents_with p key meta body;
+  live = live_bytes (documents_with p key meta body);
   seq = p.seq + 1;
   place = p.place + 1;
 }
@@ -78,12 +95,14 @@ after_commit p = record p { committed = p.seq; commit = p.commit + 1; place = p.
 
 -- a new store
 abbrev pub new_plain : PlainStore
-new_plain = record { documents = finite.empty; seq = 0; committed = 0; commit = 0; place = 0 }
+new_plain = record { documents = finite.empty; live = 0; seq = 0; committed = 0; commit = 0; place = 0 }
 
--- no number is above the place
+-- no number is above the place, and the live bytes are counted
 pub record AreWithin (p : PlainStore) : Type 0 where
   pub seq : p.seq ≤ p.place
   pub commit : p.commit ≤ p.place
+  pub live : p.live ≡ live_bytes p.documents
+  pub live_fits : p.live ≤ p.place * 7024
 
 -- what the plain store says to a line, and the store after it
 abbrev pub plain_answer : PlainStore → Verb → Said × PlainStore

@@ -1,49 +1,85 @@
--- How far a player has come: what its plain store stands for, and what was said.
-use Rattle.std.specs.Prelude.{◌≡◌, ℕ, ◌+◌, ◌*◌, ◌≤◌, ◌⊎◌, List, [], ◌∷◌, ◌++◌, length}
-use Rattle.forest_model.specs.Blocks.{File}
+-- How far a player has come: what its plain store and its file stand for, and what was said.
+use Rattle.std.specs.Prelude.{◌≡◌, ℕ, ◌+◌, ◌*◌, ◌<◌, ◌≤◌, ◌⊎◌, Bool, IsTrue, List, [], ◌∷◌, ◌++◌, length, take, Some}
+use Rattle.forest_model.specs.Blocks.{File, last_header, block_at, wal_from}
 use Rattle.forest_model.specs.Run.{Run}
 use Rattle.forest_model.specs.declared.line.Line.{Line}
 use Rattle.forest_model.specs.declared.line.Told.{Told}
-use Rattle.play_run.specs.Plain.{Hidden, session_at, Stands, AreWithin, plain_answer, plain_told}
+use Rattle.play_run.specs.Plain.{Hidden, session_at, Stands, AreWithin}
+use Rattle.play_run.specs.Ledger.{Place, Seen, TellsLine}
 use Rattle.block_host.specs.Disk.{risen}
-use Rattle.play_run.specs.Script.{start, IsTaken, AreTaken, IsText, IsBad, ended, replies, HasSaid, RunsAll, RunsWhole, RunsPrefix, IsBadLine, IsBadEnd, IsTooLong}
+use Rattle.play_run.specs.Play.{SaidThen, PartSaid, source_fault}
+use Rattle.play_run.specs.Script.{start, bad_line, IsTaken, AreTaken, IsText, IsBad, ended, replies, HasSaid, RunsAll, RunsWhole, RunsPrefix, IsBadLine, IsBadEnd, IsTooLong}
 use Rattle.play_run.specs.declared.plain.PlainStore.{PlainStore}
 use Rattle.play_run.specs.declared.player.Ended.{Ended}
 use Rattle.play_run.specs.declared.player.Ended.TheVariants.{BadLine, NoMemory, HostFault, SourceFault, AtEnd}
+use Rattle.play_run.specs.declared.player.TheConstants.{SCRIPT_LIMIT}
 
--- The run of these lines comes to a session for which the store stands, with few blocks in its file.
-pub record Reaches (first : File) (lines : List Line) (told : List Told) (p : PlainStore) : Type 0 where
+-- The file's writer stands at its end: the open block comes next, and the last header has no flush behind it.
+pub record IsWritten (h : Hidden) (file : File) (at : Place) : Type 0 where
+  pub loose : h.loose ≡ length at.open_block.bytes
+  pub number : at.open_block.number ≡ length file
+  pub header : last_header file ≡ Some at.header_at
+  pub from : wal_from (block_at file at.header_at) ≡ 1
+
+-- The run of these lines comes to a session for which the store stands, and to a file with few blocks, at whose end the writer is.
+pub record Reaches (first : File) (lines : List Line) (told : List Told) (p : PlainStore) (at : Place) : Type 0 where
   pub hidden : Hidden
   pub file : File
   pub run : Run start first lines told (session_at p hidden) file
   pub stands : Stands p hidden
+  pub written : IsWritten hidden file at
   pub few : length file ≤ 1 + 2 * length lines
 
 -- The lines of these texts were run, and their replies were said behind what had been said before.
-pub record HasRun (base heard : List ℕ) (texts : List (List ℕ)) (p : PlainStore) (count : ℕ) : Type 0 where
+pub record HasRun (tells : Bool) (base heard : Seen) (texts : List (List ℕ)) (p : PlainStore) (at : Place) (count : ℕ) : Type 0 where
   pub lines : List Line
   pub told : List Told
   pub taken : AreTaken lines texts
   pub counted : length texts ≡ count
   pub places : p.place ≤ count
-  pub reaches : (first : File) → length first ≡ 1 → Reaches first lines told p
-  pub heard_all : heard ≡ base ++ replies told
+  pub first : File
+  pub reaches : Reaches first lines told p at
+  pub said_is : IsTrue tells → heard.said ≡ base.said ++ replies told
+  pub first_is : IsTrue tells → first ≡ base.file
+  pub last_is : IsTrue tells → reaches.file ≡ heard.file
 
 -- The bytes taken are the lines run, and an open line.
-pub record HasTaken (base heard taken : List ℕ) (p : PlainStore) (open_line : List ℕ) (count : ℕ) : Type 0 where
+pub record HasTaken (tells : Bool) (base heard : Seen) (taken : List ℕ) (p : PlainStore) (at : Place) (open_line : List ℕ) (count : ℕ) : Type 0 where
   pub texts : List (List ℕ)
   pub cut : taken ≡ ended texts ++ open_line
   pub no_newline : IsText open_line
-  pub run : HasRun base heard texts p count
+  pub run : HasRun tells base heard texts p at count
 
--- some of the lines were run, and what was heard since is their replies
-pub record HasHeard (base heard : List ℕ) (texts : List (List ℕ)) : Type 0 where
+-- these lines were run, and what was heard since is their replies
+pub record HasHeard (tells : Bool) (base heard : Seen) (texts : List (List ℕ)) : Type 0 where
+  pub first : File
+  pub last : File
   pub said : List ℕ
-  pub is : heard ≡ base ++ said
-  pub said_all : HasSaid texts said
+  pub said_all : HasSaid first last texts said
+  pub said_is : IsTrue tells → heard.said ≡ base.said ++ said
+  pub first_is : IsTrue tells → first ≡ base.file
+  pub last_is : IsTrue tells → last ≡ heard.file
+
+-- the same, whatever the file is now; and the same where only the first bytes of their replies were heard
+pub record HasHeardOf (tells : Bool) (base heard : Seen) (texts : List (List ℕ)) : Type 0 where
+  pub first : File
+  pub last : File
+  pub said : List ℕ
+  pub said_all : HasSaid first last texts said
+  pub said_is : IsTrue tells → heard.said ≡ base.said ++ said
+  pub first_is : IsTrue tells → first ≡ base.file
+
+pub record HasHeardPart (tells : Bool) (base heard : Seen) (texts : List (List ℕ)) : Type 0 where
+  pub first : File
+  pub last : File
+  pub whole : List ℕ
+  pub said_all : HasSaid first last texts whole
+  pub n : ℕ
+  pub said_is : IsTrue tells → heard.said ≡ base.said ++ take n whole
+  pub first_is : IsTrue tells → first ≡ base.file
 
 -- What stops a player among the bytes taken: a bad line behind those that were run, or something else after some of them.
-pub record StopsAtBad (base heard taken : List ℕ) (count : ℕ) : Type 0 where
+pub record StopsAtBad (tells : Bool) (base heard : Seen) (taken : List ℕ) (count : ℕ) : Type 0 where
   pub texts : List (List ℕ)
   pub bad : List ℕ
   pub more : List ℕ
@@ -51,35 +87,43 @@ pub record StopsAtBad (base heard taken : List ℕ) (count : ℕ) : Type 0 where
   pub no_newline : IsText bad
   pub no_line : IsBad bad
   pub counted : length texts ≡ count
-  pub run : HasHeard base heard texts
+  pub run : HasHeard tells base heard texts
 
-pub record StopsAmong (base heard taken : List ℕ) : Type 0 where
+pub record StopsAmong (tells : Bool) (base heard : Seen) (taken : List ℕ) : Type 0 where
   pub texts : List (List ℕ)
   pub rest : List ℕ
   pub cut : taken ≡ ended texts ++ rest
-  pub run : HasHeard base heard texts
+  pub run : HasHeardOf tells base heard texts
 
-abbrev pub Stops : Ended → List ℕ → List ℕ → List ℕ → ℕ → Type 0
-Stops BadLine base heard taken count = StopsAtBad base heard taken count
-Stops NoMemory base heard taken count = StopsAmong base heard taken
-Stops HostFault base heard taken count = Unit {0}
-Stops AtEnd base heard taken count = ⊥
-Stops SourceFault base heard taken count = ⊥
+pub record StopsInPart (tells : Bool) (base heard : Seen) (taken : List ℕ) : Type 0 where
+  pub texts : List (List ℕ)
+  pub rest : List ℕ
+  pub cut : taken ≡ ended texts ++ rest
+  pub run : HasHeardPart tells base heard texts
 
--- A text is a line that the store has run, and this is told for it.
-pub record RunsText (text : List ℕ) (before after : PlainStore) (t : Told) : Type 0 where
+abbrev pub Stops : Ended → Bool → Seen → Seen → List ℕ → ℕ → Type 0
+Stops BadLine tells base heard taken count = StopsAtBad tells base heard taken count
+Stops NoMemory tells base heard taken count = StopsAmong tells base heard taken
+Stops HostFault tells base heard taken count = StopsInPart tells base heard taken
+Stops AtEnd tells base heard taken count = ⊥
+Stops SourceFault tells base heard taken count = ⊥
+
+-- A text is a line that the store has run over its file, and this is told for it.
+pub record RunsText (tells : Bool) (text : List ℕ) (p p' : PlainStore) (at at' : Place) (before now : Seen) (t : Told) : Type 0 where
   pub line : Line
   pub taken : IsTaken line text
-  pub told : t ≡ plain_told before line
-  pub stored : after ≡ (plain_answer before line.verb).1
+  pub goes : TellsLine tells p p' at at' before now line t
 
--- why the run of one text stops: it is no line, or there is no memory; and nothing was said, unless the host failed
-abbrev pub StopsText : Ended → List ℕ → List ℕ → List ℕ → Type 0
-StopsText BadLine text before after = IsBad text × (after ≡ before)
-StopsText NoMemory text before after = after ≡ before
-StopsText HostFault text before after = Unit {0}
-StopsText AtEnd text before after = ⊥
-StopsText SourceFault text before after = ⊥
+-- Why the run of one text stops: it is no line, or there is no memory, and nothing was said; or the host failed, and at
+-- most the first bytes of the reply were said.
+abbrev pub StopsText : Ended → Bool → List ℕ → PlainStore → Place → ℕ → Seen → Seen → Type 0
+StopsText BadLine tells text p at count before after = IsBad text × (IsTrue tells → after ≡ before)
+StopsText NoMemory tells text p at count before after = IsTrue tells → after.said ≡ before.said
+StopsText HostFault tells text p at count before after =
+    (base : Seen) (texts : List (List ℕ)) → IsText text → HasRun tells base before texts p at count
+    → HasHeardPart tells base after texts ⊎ HasHeardPart tells base after (texts ++ text ∷ [])
+StopsText AtEnd tells text p at count before after = ⊥
+StopsText SourceFault tells text p at count before after = ⊥
 
 -- the same where nothing is known of what was said
 abbrev pub IsStop : Ended → Type 0
@@ -92,20 +136,35 @@ abbrev pub FaultsAfter : Ended → ℕ → ℕ → Type 0
 FaultsAfter HostFault before after = risen before ≤ after
 FaultsAfter ended before after = after ≡ before
 
--- the store's numbers are at most the place, and that is at most the count of lines
-pub record IsCounted (p : PlainStore) (count : ℕ) : Type 0 where
+-- the store's numbers are at most the place, that is at most the count of lines, and each line adds few blocks
+pub record IsCounted (p : PlainStore) (at : Place) (count : ℕ) : Type 0 where
   pub within : AreWithin p
   pub places : p.place ≤ count
+  pub blocks : at.open_block.number ≤ 1 + 2 * count
+  pub header : at.header_at ≤ at.open_block.number
+  pub not_full : length at.open_block.bytes < 4064
+
+-- The file of a new store: one header, whose records stand behind it.
+pub record IsFirst (file : File) : Type 0 where
+  pub one : length file ≡ 1
+  pub header : last_header file ≡ Some 0
+  pub from : wal_from (block_at file 0) ≡ 1
+
+-- a new store is seen where the host tells its content; and there are such files
+pub record IsStart (tells : Bool) (base : Seen) : Type 0 where
+  pub first : File
+  pub is : IsFirst first
+  pub same : IsTrue tells → first ≡ base.file
 
 -- So many more bytes of a script were taken, and others are left.
-pub record Feeds (base heard taken script left : List ℕ) (p : PlainStore) (line_open : List ℕ) (count n : ℕ) : Type 0 where
+pub record Feeds (tells : Bool) (base heard : Seen) (taken script left : List ℕ) (p : PlainStore) (at : Place) (line_open : List ℕ) (count n : ℕ) : Type 0 where
   pub more : List ℕ
   pub source : script ≡ taken ++ more ++ left
   pub long : length more ≡ n
-  pub has : HasTaken base heard (taken ++ more) p line_open count
+  pub has : HasTaken tells base heard (taken ++ more) p at line_open count
 
 -- What the run of a source's bytes has come to, with what the source had and still has.
-pub record EndsAtBad (base heard script left : List ℕ) (count : ℕ) : Type 0 where
+pub record EndsAtBad (tells : Bool) (base heard : Seen) (script left : List ℕ) (count : ℕ) : Type 0 where
   pub texts : List (List ℕ)
   pub taken : List ℕ
   pub rest : List ℕ
@@ -113,30 +172,70 @@ pub record EndsAtBad (base heard script left : List ℕ) (count : ℕ) : Type 0 
   pub cut : taken ≡ ended texts ++ rest
   pub bad : IsBadLine rest ⊎ (IsBadEnd rest left ⊎ IsTooLong taken rest)
   pub counted : length texts ≡ count
-  pub run : HasHeard base heard texts
+  pub run : HasHeard tells base heard texts
 
-pub record EndsWhole (base heard script : List ℕ) : Type 0 where
+pub record EndsWhole (tells : Bool) (base heard : Seen) (script : List ℕ) : Type 0 where
+  pub first : File
+  pub last : File
   pub said : List ℕ
-  pub is : heard ≡ base ++ said
-  pub all : RunsAll script said
+  pub all : RunsAll first last script said
+  pub short : length script ≤ SCRIPT_LIMIT
+  pub said_is : IsTrue tells → heard.said ≡ base.said ++ said
+  pub first_is : IsTrue tells → first ≡ base.file
+  pub last_is : IsTrue tells → last ≡ heard.file
 
-pub record EndsAtFault (base heard script left : List ℕ) : Type 0 where
+pub record EndsAtFault (tells : Bool) (base heard : Seen) (script left : List ℕ) : Type 0 where
   pub taken : List ℕ
   pub source : script ≡ taken ++ left
+  pub short : length taken ≤ SCRIPT_LIMIT
+  pub first : File
+  pub last : File
   pub said : List ℕ
-  pub is : heard ≡ base ++ said
-  pub whole : RunsWhole taken said
+  pub whole : RunsWhole first last taken said
+  pub said_is : IsTrue tells → heard.said ≡ base.said ++ said
+  pub first_is : IsTrue tells → first ≡ base.file
+  pub last_is : IsTrue tells → last ≡ heard.file
 
-pub record EndsAmong (base heard script left : List ℕ) : Type 0 where
+pub record EndsAmong (tells : Bool) (base heard : Seen) (script left : List ℕ) : Type 0 where
   pub taken : List ℕ
   pub source : script ≡ taken ++ left
+  pub first : File
+  pub last : File
   pub said : List ℕ
-  pub is : heard ≡ base ++ said
-  pub some : RunsPrefix taken said
+  pub some : RunsPrefix first last taken said
+  pub said_is : IsTrue tells → heard.said ≡ base.said ++ said
+  pub first_is : IsTrue tells → first ≡ base.file
 
-abbrev pub EndsBy : Ended → List ℕ → List ℕ → List ℕ → List ℕ → ℕ → Type 0
-EndsBy AtEnd base heard script left count = (left ≡ []) × EndsWhole base heard script
-EndsBy SourceFault base heard script left count = EndsAtFault base heard script left
-EndsBy BadLine base heard script left count = EndsAtBad base heard script left count
-EndsBy NoMemory base heard script left count = EndsAmong base heard script left
-EndsBy HostFault base heard script left count = Unit {0}
+pub record EndsInPart (tells : Bool) (base heard : Seen) (script left : List ℕ) : Type 0 where
+  pub taken : List ℕ
+  pub source : script ≡ taken ++ left
+  pub first : File
+  pub last : File
+  pub whole : List ℕ
+  pub some : RunsPrefix first last taken whole ⊎ RunsAll first last taken whole
+  pub n : ℕ
+  pub said_is : IsTrue tells → heard.said ≡ base.said ++ take n whole
+  pub first_is : IsTrue tells → first ≡ base.file
+
+abbrev pub EndsBy : Ended → Bool → Seen → Seen → List ℕ → List ℕ → ℕ → Type 0
+EndsBy AtEnd tells base heard script left count = (left ≡ []) × EndsWhole tells base heard script
+EndsBy SourceFault tells base heard script left count = EndsAtFault tells base heard script left
+EndsBy BadLine tells base heard script left count = EndsAtBad tells base heard script left count
+EndsBy NoMemory tells base heard script left count = EndsAmong tells base heard script left
+EndsBy HostFault tells base heard script left count = EndsInPart tells base heard script left
+
+-- the status in which a run may end
+abbrev pub EndsWith : Ended → ℕ → Type 0
+EndsWith AtEnd status = status ≡ 0
+EndsWith SourceFault status = (status ≡ 2) ⊎ (status ≡ 4)
+EndsWith BadLine status = (status ≡ 3) ⊎ ((status ≡ 4) ⊎ (status ≡ 5))
+EndsWith NoMemory status = status ≡ 5
+EndsWith HostFault status = status ≡ 4
+
+-- what is said at the end of a run of so many lines
+abbrev pub SaysEnd : Ended → ℕ → ℕ → Seen → Seen → Type 0
+SaysEnd SourceFault status count before now =
+    (status ≡ 2 → SaidThen source_fault before now) × (status ≡ 4 → PartSaid source_fault before now)
+SaysEnd BadLine status count before now =
+    (status ≡ 3 → SaidThen (bad_line (count + 1)) before now) × (status ≡ 4 → PartSaid (bad_line (count + 1)) before now) × (status ≡ 5 → now ≡ before)
+SaysEnd ended status count before now = now ≡ before

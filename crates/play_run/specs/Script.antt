@@ -1,5 +1,5 @@
 -- A script's bytes as lines, what is said for them, and how far a run has come.
-use Rattle.std.specs.Prelude.{◌≡◌, ◌≢◌, ℕ, ◌+◌, ◌⊎◌, false, IsTrue, List, [], ◌∷◌, ◌++◌, length, codes}
+use Rattle.std.specs.Prelude.{◌≡◌, ◌≢◌, ℕ, ◌+◌, ◌<◌, ◌≤◌, ◌⊎◌, false, IsTrue, List, [], ◌∷◌, ◌++◌, length, codes}
 use Rattle.std.specs.List.{AllByRecursion}
 use Rattle.std.specs.Fmt.{decimal}
 use Rattle.forest_model.specs.Blocks.{File}
@@ -53,16 +53,14 @@ replies (t ∷ ts) = reply_line t ++ replies ts
 abbrev pub start : Session
 start = first_session (new_state usual_limits)
 
--- these lines are run from a new store, whatever its first block is, and tell this
-abbrev pub Tells : List Line → List Told → Type 0
-Tells lines ts = (first : File) → length first ≡ 1 → (after : Session) × (last : File) × Run start first lines ts after last
-
--- The texts are lines, which were run in their order, and what was said since are their replies.
-pub record HasSaid (texts : List (List ℕ)) (said : List ℕ) : Type 0 where
+-- The texts are lines, which were run in their order from a new store; the file went from its first blocks to its last, and
+-- what was said since are the replies.
+pub record HasSaid (first last : File) (texts : List (List ℕ)) (said : List ℕ) : Type 0 where
   pub lines : List Line
   pub told : List Told
   pub taken : AreTaken lines texts
-  pub run : Tells lines told
+  pub after : Session
+  pub run : Run start first lines told after last
   pub is : said ≡ replies told
 
 -- the last line of an input, which may lack its newline; none if nothing stands there
@@ -71,27 +69,27 @@ last_line [] = []
 last_line (b ∷ rest) = (b ∷ rest) ∷ []
 
 -- All lines of the whole script were run.
-pub record RunsAll (script said : List ℕ) : Type 0 where
+pub record RunsAll (first last : File) (script said : List ℕ) : Type 0 where
   pub texts : List (List ℕ)
   pub rest : List ℕ
   pub cut : script ≡ ended texts ++ rest
   pub no_newline : IsText rest
-  pub said_all : HasSaid (texts ++ last_line rest) said
+  pub said_all : HasSaid first last (texts ++ last_line rest) said
 
 -- All whole lines of the bytes taken were run.
-pub record RunsWhole (taken said : List ℕ) : Type 0 where
+pub record RunsWhole (first last : File) (taken said : List ℕ) : Type 0 where
   pub texts : List (List ℕ)
   pub rest : List ℕ
   pub cut : taken ≡ ended texts ++ rest
   pub no_newline : IsText rest
-  pub said_all : HasSaid texts said
+  pub said_all : HasSaid first last texts said
 
 -- A prefix of the lines was run.
-pub record RunsPrefix (taken said : List ℕ) : Type 0 where
+pub record RunsPrefix (first last : File) (taken said : List ℕ) : Type 0 where
   pub texts : List (List ℕ)
   pub rest : List ℕ
   pub cut : taken ≡ ended texts ++ rest
-  pub said_all : HasSaid texts said
+  pub said_all : HasSaid first last texts said
 
 -- a whole line that is bad stands next
 abbrev pub IsBadLine : List ℕ → Type 0
@@ -109,12 +107,41 @@ IsTooLong taken rest = (length taken ≡ SCRIPT_LIMIT + 1) × ((front : List ℕ
 abbrev pub bad_line : ℕ → List ℕ
 bad_line n = codes "line " ++ decimal n ++ codes ": bad line" ++ 10 ∷ []
 
+-- a bad line stands whole in these bytes, or there are more of them than a script may have
+pub record HasBadLine (taken : List ℕ) : Type 0 where
+  pub texts : List (List ℕ)
+  pub rest : List ℕ
+  pub cut : taken ≡ ended texts ++ rest
+  pub are_texts : AllByRecursion IsText texts
+  pub bad : IsBadLine rest
+
+abbrev pub HoldsBad : List ℕ → Type 0
+HoldsBad taken = HasBadLine taken ⊎ (SCRIPT_LIMIT < length taken)
+
+-- the last of these bytes are a bad line, and no byte is left
+pub record EndsBad (taken left : List ℕ) : Type 0 where
+  pub texts : List (List ℕ)
+  pub rest : List ℕ
+  pub cut : taken ≡ ended texts ++ rest
+  pub are_texts : AllByRecursion IsText texts
+  pub bad : IsBadEnd rest left
+
+-- every line of the script is taken, and it isn't too long
+pub record IsGood (script : List ℕ) : Type 0 where
+  pub texts : List (List ℕ)
+  pub rest : List ℕ
+  pub cut : script ≡ ended texts ++ rest
+  pub no_newline : IsText rest
+  pub lines : List Line
+  pub taken : AreTaken lines (texts ++ last_line rest)
+  pub short : length script ≤ SCRIPT_LIMIT
+
 -- All lines before the first bad one were run, and that one's number is said.
-pub record MeetsBad (taken left said : List ℕ) : Type 0 where
+pub record MeetsBad (first last : File) (taken left said : List ℕ) : Type 0 where
   pub texts : List (List ℕ)
   pub rest : List ℕ
   pub cut : taken ≡ ended texts ++ rest
   pub bad : IsBadLine rest ⊎ (IsBadEnd rest left ⊎ IsTooLong taken rest)
   pub before : List ℕ
-  pub said_before : HasSaid texts before
+  pub said_before : HasSaid first last texts before
   pub is : said ≡ before ++ bad_line (length texts + 1)

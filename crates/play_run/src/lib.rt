@@ -4,7 +4,10 @@
 //! and that each of its statuses has its cause. A line is run and answered as soon as it is whole.
 #![tactic(auto)]
 
+mod ledger;
+mod opening;
 mod plain;
+mod plain_file;
 mod player;
 mod program;
 

@@ -1,11 +1,12 @@
-ghost use Rattle.std.specs.Prelude.{◌≡◌, ◌+◌, ◌^◌, ◌<◌, ◌≤◌, ◌↔◌, IsTrue, IsSome, IfOk, IfSome, IfNone, OnOk, OnErr, not};
+ghost use Rattle.std.specs.Prelude.{ℕ, List, length, ◌≡◌, ◌+◌, ◌^◌, ◌<◌, ◌≤◌, ◌↔◌, ◌==◌, IsTrue, IfOk, OnOk, OnErr, not};
 ghost use Rattle.std.specs.List.{list_all};
 ghost use Rattle.forest_model.specs.Limits.{is_wrong_key};
+ghost use Rattle.forest_model.specs.Step.{record_length};
+ghost use Rattle.play_run.specs.Plain.{replaced};
 ghost use Rattle.play_run.specs.Built.{is_built_verb, is_own_word};
-ghost use Rattle.script_text.specs.Replies.{CanBeSaid};
 ghost use Rattle.script_text.specs.Words.{is_plain};
 
-use forest_model::{Bytes, Doc, DocKey, Documents, Found, Line, Refusal, Said, Told, Verb};
+use forest_model::{Bytes, Doc, DocKey, Documents, Found, Header, Refusal, Said, Stores, Verb};
 use std::alloc::Global;
 
 /// The store of the first path, over one ordered map: its one store is `default`.
@@ -20,12 +21,14 @@ pub(crate) struct PlainStore {
     /// The number of the last commit.
     commit: u64,
     /// The number of updates.
-    place: u64,
+    pub(crate) place: u64,
+    /// The bytes of the records of its documents.
+    live: u64,
 }
 
 impl PlainStore {
-    ghost use Rattle.play_run.specs.Built.{is_built};
-    ghost use Rattle.play_run.specs.Plain.{new_plain, plain_answer, plain_told, after_set, AreWithin};
+    ghost use Rattle.play_run.specs.Plain.{new_plain, plain_answer, after_set, AreWithin};
+    ghost use Rattle.play_run.specs.Ledger.{header_for};
     ghost use Rattle.forest_model.specs.declared.line.Said.{Said};
 
     /// A new store.
@@ -38,63 +41,61 @@ impl PlainStore {
             committed: 0,
             commit: 0,
             place: 0,
+            live: 0,
         }
     }
 
-    /// Runs a line. None where it isn't a line of the first path; a refusal is want of memory.
-    pub(crate) fn tell(&mut self, line: Line) -> Result<Option<Told>, Refusal>
-        requires within { AreWithin self.old }
-        requires small { self.old.place < 2 ^ 40 }
-        ensures built { IfOk result (λ told. IsSome told ↔ IsTrue (is_built line)) }
-        ensures told { IfOk result (λ told. IfSome told (λ t. (t ≡ plain_told self.old line) × (self.new ≡ (plain_answer self.old line.verb).1))) }
-        ensures spelled { IfOk result (λ told. IfSome told (λ t. CanBeSaid t.said)) }
-        ensures none { IfOk result (λ told. IfNone told (self.new ≡ self.old)) }
-        ensures err { OnErr result (self.new ≡ self.old) }
-        ensures kept { AreWithin self.new × (self.new.place ≤ self.old.place + 1) }
+    /// The sequence number that the next set draws.
+    pub(crate) fn next_seq(&self) -> u64
+        requires { self.now.seq < 2 ^ 40 }
+        ensures { result ≡ self.now.seq + 1 }
     {
-        if line.lane != 0 || !is_built(&line.verb) {
-            return Ok(None);
-        }
-        let Line { lane, verb } = line;
-        let said = self.run(verb)?;
-        Ok(Some(Told {
-            lane,
-            place: self.place,
-            said,
-        }))
+        self.seq + 1
     }
 
-    fn run(&mut self, verb: Verb) -> Result<Said, Refusal>
-        requires built { IsTrue (is_built_verb verb) }
-        requires within { AreWithin self.old }
-        requires small { self.old.place < 2 ^ 40 }
-        ensures said { IfOk result (λ said. said ≡ (plain_answer self.old verb).0) }
-        ensures ok { OnOk result (self.new ≡ (plain_answer self.old verb).1) }
-        ensures err { OnErr result (self.new ≡ self.old) }
+    /// The header of the last commit, behind the one in this block.
+    pub(crate) fn header(&self, previous: u64) -> Header
+        requires { self.now.commit < 2 ^ 62 }
+        ensures { result ≡ header_for self.now previous }
     {
-        match verb {
-            Verb::Set { key, meta, body } => self.set(key, meta, body),
-            Verb::Get { key } => self.get(key),
-            _other => Ok(self.commit()),
+        let mut stores = Stores::new();
+        stores.push(0, b"default", self.seq, self.documents.len() as u64);
+        Header {
+            commit: self.commit,
+            next_commit: self.commit + 1,
+            previous: Some(previous),
+            key: None,
+            seq: None,
+            wal_from: 1,
+            live: self.live,
+            next_store: 1,
+            stores,
         }
     }
 
-    fn set(&mut self, key: Bytes, meta: Bytes, body: Bytes) -> Result<Said, Refusal>
+    /// Sets a document under the next sequence number. A refusal is want of memory.
+    pub(crate) fn set(&mut self, key: Bytes, meta: Bytes, body: Bytes) -> Result<(), Refusal>
         requires within { AreWithin self.old }
         requires small { self.old.place < 2 ^ 40 }
-        ensures said { IfOk result (λ said. said ≡ Said.Done (self.old.seq + 1)) }
+        requires short { record_length key meta body ≤ 7024 }
         ensures ok { OnOk result (self.new ≡ after_set self.old key meta body) }
+        ensures within_still { OnOk result (AreWithin self.new) }
         ensures err { OnErr result (self.new ≡ self.old) }
     {
         let seq = self.seq + 1;
-        self.documents
+        let added = record_length(&key, &meta, &body);
+        let key_len = key.len();
+        let before = self
+            .documents
             .insert(DocKey { store: 0, key }, Doc { seq, meta, body })?;
+        self.live = self.live + added - replaced_length(key_len, &before);
         self.seq = seq;
         self.place += 1;
-        Ok(Said::Done { seq })
+        Ok(())
     }
 
-    fn get(&self, key: Bytes) -> Result<Said, Refusal>
+    /// The document of a key, as it is said. A refusal is want of memory.
+    pub(crate) fn get(&self, key: Bytes) -> Result<Said, Refusal>
         ensures { IfOk result (λ said. said ≡ (plain_answer self.now (Verb.Get key)).0) }
     {
         let key = DocKey { store: 0, key };
@@ -117,26 +118,53 @@ impl PlainStore {
         })
     }
 
-    fn commit(&mut self) -> Said
+    /// Commits, and says whether something was new.
+    pub(crate) fn commit(&mut self) -> bool
         requires within { AreWithin self.old }
         requires small { self.old.place < 2 ^ 40 }
-        ensures said { result ≡ (plain_answer self.old Verb.Commit).0 }
+        ensures is_new { result ≡ not (self.old.seq == self.old.committed) }
         ensures after { self.new ≡ (plain_answer self.old Verb.Commit).1 }
+        ensures within_still { AreWithin self.new }
     {
-        if self.seq != self.committed {
+        let is_new = self.seq != self.committed;
+        if is_new {
             self.committed = self.seq;
             self.commit += 1;
             self.place += 1;
         }
-        Said::Committed {
-            number: self.commit,
-        }
+        is_new
     }
+
+    /// The number of the last commit.
+    pub(crate) fn last_commit(&self) -> u64
+        ensures { result ≡ self.now.commit }
+    {
+        self.commit
+    }
+}
+
+/// The bytes of the record that a set takes the place of, whose key has so many bytes.
+fn replaced_length(key_len: usize, before: &Option<Doc>) -> u64
+    requires { (key : List ℕ) × (key_len ≡ length key) × (replaced key before.now < 2 ^ 60) }
+    ensures { (key : List ℕ) → key_len ≡ length key → result ≡ replaced key before.now }
+{
+    match before {
+        Some(doc) => 24 + (key_len + doc.meta.len() + doc.body.len()) as u64,
+        None => 0,
+    }
+}
+
+/// The bytes of a document's record.
+fn record_length(key: &Bytes, meta: &Bytes, body: &Bytes) -> u64
+    requires { record_length key.now meta.now body.now ≤ 7024 }
+    ensures { result ≡ record_length key.now meta.now body.now }
+{
+    24 + (key.len() + meta.len() + body.len()) as u64
 }
 
 /// Whether the verb is one of the first path: a set without a meta, a get or a commit, with keys and bodies
 /// that are their own words.
-fn is_built(verb: &Verb) -> bool
+pub(crate) fn is_built(verb: &Verb) -> bool
     ensures { result ≡ is_built_verb verb.now }
 {
     match verb {

@@ -2,10 +2,11 @@ ghost use Rattle.std.specs.Prelude.{◌≡◌, ◌≢◌, ◌+◌, ◌-◌, ◌^
 ghost use Rattle.block_host.specs.Disk.{risen};
 ghost use Rattle.script_text.specs.Replies.{CanBeSaid};
 ghost use Rattle.play_run.specs.Script.{IsText, IsBad, reply_line};
-ghost use Rattle.play_run.specs.Plain.{AreWithin};
-ghost use Rattle.play_run.specs.Progress.{HasRun, HasTaken, Stops, StopsText, IsStop, FaultsAfter, IsCounted, RunsText, Feeds, EndsBy};
+ghost use Rattle.play_run.specs.Ledger.{Seen, seen, new_place};
+ghost use Rattle.play_run.specs.Progress.{HasRun, HasTaken, Stops, StopsText, IsStop, FaultsAfter, IsCounted, RunsText, Feeds, EndsBy, IsStart};
 
-use crate::plain::PlainStore;
+use crate::ledger::Ledger;
+use crate::plain_file::PlainFile;
 use block_host::{Failed, Host, Source};
 use forest_model::Told;
 use script_text::{line_of, one_spelling, reply_text};
@@ -32,26 +33,29 @@ pub(crate) enum Ended {
     HostFault,
 }
 
-/// A script that is run while it is read: the store, and the line that isn't whole yet.
+/// A script that is run while it is read: the store with its file, and the line that isn't whole yet.
 pub(crate) struct Player<H: Host> {
     alloc: Global,
-    pub(crate) host: H,
-    store: PlainStore,
+    pub(crate) file: PlainFile<H>,
     open_line: Vec<u8>,
     /// How many lines were run.
     pub(crate) count: u64,
 }
 
 /// Runs the line of a text, and gives what is told for it.
-fn told_for(alloc: Global, store: &mut PlainStore, text: &[u8]) -> Result<Told, Ended>
-    requires within { AreWithin store.old }
-    requires small { store.old.place < 2 ^ 40 }
-    ensures runs { IfOk result (RunsText text.now store.old store.new) }
+fn told_for<H: Host>(
+    alloc: Global,
+    file: &mut PlainFile<H>,
+    text: &[u8],
+) -> Result<Told, Ended>
+    requires counted { (count : ℕ) × (count < 2 ^ 27) × IsCounted file.old.store file.old.ledger count }
+    ensures runs { IfOk result (RunsText H.tells text.now file.old.store file.new.store file.old.ledger file.new.ledger (seen (H.disk file.old.host)) (seen (H.disk file.new.host))) }
     ensures spelled { IfOk result (λ t. CanBeSaid t.said) }
-    ensures bad { result ≡ Err Ended.BadLine → IsBad text.now }
+    ensures bad { result ≡ Err Ended.BadLine → IsBad text.now × (IsTrue H.tells → seen (H.disk file.new.host) ≡ seen (H.disk file.old.host)) }
     ensures stop { IfErr result IsStop }
-    ensures unfailed { result ≢ Err Ended.HostFault }
-    ensures kept { AreWithin store.new × (store.new.place ≤ store.old.place + 1) }
+    ensures silent { IsTrue H.tells → (H.disk file.new.host).said ≡ (H.disk file.old.host).said }
+    ensures untroubled { OnOk result (H.faults file.new.host ≡ H.faults file.old.host) }
+    ensures faults { IfErr result (λ why. FaultsAfter why (H.faults file.old.host) (H.faults file.new.host)) }
 {
     let line = match line_of(alloc, text, false) {
         Ok(Some(line)) => line,
@@ -59,10 +63,10 @@ fn told_for(alloc: Global, store: &mut PlainStore, text: &[u8]) -> Result<Told, 
         Err(_) => return Err(Ended::NoMemory),
     };
     one_spelling();
-    match store.tell(line) {
+    match file.tell(line) {
         Ok(Some(told)) => Ok(told),
         Ok(None) => Err(Ended::BadLine),
-        Err(_) => Err(Ended::NoMemory),
+        Err(why) => Err(why),
     }
 }
 
@@ -82,16 +86,16 @@ fn spelled(alloc: Global, told: &Told) -> Result<Vec<u8>, Ended>
 
 impl<H: Host> Player<H> {
     /// A player of a new store, before the first line.
-    pub(crate) fn new(alloc: Global, host: H) -> Player<H>
-        ensures host { result.host ≡ host }
+    pub(crate) fn new(alloc: Global, host: H, ledger: Ledger) -> Player<H>
+        requires { ledger ≡ new_place }
+        ensures host { result.file.host ≡ host }
         ensures none { result.count ≡ 0 }
-        ensures counted { IsCounted result.store result.count }
-        ensures taken { (base heard : List ℕ) → heard ≡ base → HasTaken base heard [] result.store result.open_line.items result.count }
+        ensures counted { IsCounted result.file.store result.file.ledger result.count }
+        ensures taken { (base : Seen) → IsStart H.tells base → HasTaken H.tells base base [] result.file.store result.file.ledger result.open_line.items result.count }
     {
         Player {
             alloc,
-            host,
-            store: PlainStore::new(alloc),
+            file: PlainFile::new(alloc, host, ledger),
             open_line: Vec::new(alloc),
             count: 0,
         }
@@ -99,38 +103,43 @@ impl<H: Host> Player<H> {
 
     /// The host, and how many lines were run.
     pub(crate) fn close(self) -> (H, u64)
-        ensures host { result.0 ≡ self.host }
+        ensures host { result.0 ≡ self.file.host }
         ensures count { result.1 ≡ self.count }
     {
         let Player {
             alloc: _alloc,
-            host,
-            store: _store,
+            file,
             open_line: _open_line,
             count,
         } = self;
-        (host, count)
+        (file.close(), count)
     }
 
     /// Runs the open line, which is whole, and says its reply.
     fn answer(&mut self) -> Result<(), Ended>
-        requires counted { IsCounted self.old.store self.old.count }
+        requires counted { IsCounted self.old.file.store self.old.file.ledger self.old.count }
         requires small { self.old.count < 2 ^ 27 }
-        ensures run { OnOk result (IsTrue H.tells → (base : List ℕ) (texts : List (List ℕ)) → IsText self.old.open_line.items
-            → HasRun base (H.disk self.old.host).said texts self.old.store self.old.count
-            → HasRun base (H.disk self.new.host).said (texts ++ self.old.open_line.items ∷ []) self.new.store self.new.count) }
+        ensures run { OnOk result ((base : Seen) (texts : List (List ℕ)) → IsText self.old.open_line.items
+            → HasRun H.tells base (seen (H.disk self.old.file.host)) texts self.old.file.store self.old.file.ledger self.old.count
+            → HasRun H.tells base (seen (H.disk self.new.file.host)) (texts ++ self.old.open_line.items ∷ []) self.new.file.store self.new.file.ledger self.new.count) }
         ensures open_line { OnOk result (self.new.open_line.items ≡ []) }
         ensures count { OnOk result (self.new.count ≡ self.old.count + 1) }
-        ensures counted { OnOk result (IsCounted self.new.store self.new.count) }
+        ensures counted { OnOk result (IsCounted self.new.file.store self.new.file.ledger self.new.count) }
         ensures same_count { OnErr result (self.new.count ≡ self.old.count) }
-        ensures stops { IfErr result (λ why. IsTrue H.tells → StopsText why self.old.open_line.items (H.disk self.old.host).said (H.disk self.new.host).said) }
+        ensures stops { IfErr result (λ why. StopsText why H.tells self.old.open_line.items self.old.file.store self.old.file.ledger self.old.count (seen (H.disk self.old.file.host)) (seen (H.disk self.new.file.host))) }
         ensures stop { IfErr result IsStop }
-        ensures untroubled { OnOk result (H.faults self.new.host ≡ H.faults self.old.host) }
-        ensures faults { IfErr result (λ why. FaultsAfter why (H.faults self.old.host) (H.faults self.new.host)) }
+        ensures untroubled { OnOk result (H.faults self.new.file.host ≡ H.faults self.old.file.host) }
+        ensures faults { IfErr result (λ why. FaultsAfter why (H.faults self.old.file.host) (H.faults self.new.file.host)) }
     {
-        let told = told_for(self.alloc, &mut self.store, self.open_line.as_slice())?;
-        let text = spelled(self.alloc, &told)?;
-        match self.host.say(text.as_slice()) {
+        let told = match told_for(self.alloc, &mut self.file, self.open_line.as_slice()) {
+            Ok(told) => told,
+            Err(why) => return Err(why),
+        };
+        let text = match spelled(self.alloc, &told) {
+            Ok(text) => text,
+            Err(_) => return Err(Ended::NoMemory),
+        };
+        match self.file.host.say(text.as_slice()) {
             Ok(()) => {
                 self.open_line.clear();
                 self.count += 1;
@@ -142,19 +151,19 @@ impl<H: Host> Player<H> {
 
     /// Takes the next byte of the script.
     fn take_byte(&mut self, byte: u8) -> Result<(), Ended>
-        requires counted { IsCounted self.old.store self.old.count }
+        requires counted { IsCounted self.old.file.store self.old.file.ledger self.old.count }
         requires small { self.old.count < 2 ^ 27 }
-        ensures taken { OnOk result (IsTrue H.tells → (base taken : List ℕ)
-            → HasTaken base (H.disk self.old.host).said taken self.old.store self.old.open_line.items self.old.count
-            → HasTaken base (H.disk self.new.host).said (taken ++ byte ∷ []) self.new.store self.new.open_line.items self.new.count) }
+        ensures taken { OnOk result ((base : Seen) (taken : List ℕ)
+            → HasTaken H.tells base (seen (H.disk self.old.file.host)) taken self.old.file.store self.old.file.ledger self.old.open_line.items self.old.count
+            → HasTaken H.tells base (seen (H.disk self.new.file.host)) (taken ++ byte ∷ []) self.new.file.store self.new.file.ledger self.new.open_line.items self.new.count) }
         ensures count { self.new.count ≤ self.old.count + 1 }
-        ensures counted { OnOk result (IsCounted self.new.store self.new.count) }
-        ensures stops { IfErr result (λ why. IsTrue H.tells → (base taken : List ℕ)
-            → HasTaken base (H.disk self.old.host).said taken self.old.store self.old.open_line.items self.old.count
-            → Stops why base (H.disk self.new.host).said (taken ++ byte ∷ []) self.new.count) }
+        ensures counted { OnOk result (IsCounted self.new.file.store self.new.file.ledger self.new.count) }
+        ensures stops { IfErr result (λ why. (base : Seen) (taken : List ℕ)
+            → HasTaken H.tells base (seen (H.disk self.old.file.host)) taken self.old.file.store self.old.file.ledger self.old.open_line.items self.old.count
+            → Stops why H.tells base (seen (H.disk self.new.file.host)) (taken ++ byte ∷ []) self.new.count) }
         ensures stop { IfErr result IsStop }
-        ensures untroubled { OnOk result (H.faults self.new.host ≡ H.faults self.old.host) }
-        ensures faults { IfErr result (λ why. FaultsAfter why (H.faults self.old.host) (H.faults self.new.host)) }
+        ensures untroubled { OnOk result (H.faults self.new.file.host ≡ H.faults self.old.file.host) }
+        ensures faults { IfErr result (λ why. FaultsAfter why (H.faults self.old.file.host) (H.faults self.new.file.host)) }
     {
         if byte == b'\n' {
             return match self.answer() {
@@ -170,19 +179,19 @@ impl<H: Host> Player<H> {
 
     /// Takes the next bytes of the script.
     fn take_bytes(&mut self, bytes: &[u8]) -> Result<(), Ended>
-        requires counted { IsCounted self.old.store self.old.count }
+        requires counted { IsCounted self.old.file.store self.old.file.ledger self.old.count }
         requires small { self.old.count + length bytes.now < 2 ^ 27 }
-        ensures taken { OnOk result (IsTrue H.tells → (base taken : List ℕ)
-            → HasTaken base (H.disk self.old.host).said taken self.old.store self.old.open_line.items self.old.count
-            → HasTaken base (H.disk self.new.host).said (taken ++ bytes.now) self.new.store self.new.open_line.items self.new.count) }
+        ensures taken { OnOk result ((base : Seen) (taken : List ℕ)
+            → HasTaken H.tells base (seen (H.disk self.old.file.host)) taken self.old.file.store self.old.file.ledger self.old.open_line.items self.old.count
+            → HasTaken H.tells base (seen (H.disk self.new.file.host)) (taken ++ bytes.now) self.new.file.store self.new.file.ledger self.new.open_line.items self.new.count) }
         ensures count { self.new.count ≤ self.old.count + length bytes.now }
-        ensures counted { OnOk result (IsCounted self.new.store self.new.count) }
-        ensures stops { IfErr result (λ why. IsTrue H.tells → (base taken : List ℕ)
-            → HasTaken base (H.disk self.old.host).said taken self.old.store self.old.open_line.items self.old.count
-            → Stops why base (H.disk self.new.host).said (taken ++ bytes.now) self.new.count) }
+        ensures counted { OnOk result (IsCounted self.new.file.store self.new.file.ledger self.new.count) }
+        ensures stops { IfErr result (λ why. (base : Seen) (taken : List ℕ)
+            → HasTaken H.tells base (seen (H.disk self.old.file.host)) taken self.old.file.store self.old.file.ledger self.old.open_line.items self.old.count
+            → Stops why H.tells base (seen (H.disk self.new.file.host)) (taken ++ bytes.now) self.new.count) }
         ensures stop { IfErr result IsStop }
-        ensures untroubled { OnOk result (H.faults self.new.host ≡ H.faults self.old.host) }
-        ensures faults { IfErr result (λ why. FaultsAfter why (H.faults self.old.host) (H.faults self.new.host)) }
+        ensures untroubled { OnOk result (H.faults self.new.file.host ≡ H.faults self.old.file.host) }
+        ensures faults { IfErr result (λ why. FaultsAfter why (H.faults self.old.file.host) (H.faults self.new.file.host)) }
     {
         for byte in bytes {
             if let Err(why) = self.take_byte(*byte) {
@@ -194,14 +203,14 @@ impl<H: Host> Player<H> {
 
     /// Runs the last line of an input, which may lack its newline.
     fn end(&mut self) -> Ended
-        requires counted { IsCounted self.old.store self.old.count }
+        requires counted { IsCounted self.old.file.store self.old.file.ledger self.old.count }
         requires small { self.old.count < 2 ^ 27 }
-        ensures ends { IsTrue H.tells → (base taken : List ℕ)
-            → HasTaken base (H.disk self.old.host).said taken self.old.store self.old.open_line.items self.old.count
-            → EndsBy result base (H.disk self.new.host).said taken [] self.new.count }
+        ensures ends { (base : Seen) (taken : List ℕ) → length taken ≤ SCRIPT_LIMIT
+            → HasTaken H.tells base (seen (H.disk self.old.file.host)) taken self.old.file.store self.old.file.ledger self.old.open_line.items self.old.count
+            → EndsBy result H.tells base (seen (H.disk self.new.file.host)) taken [] self.new.count }
         ensures read { result ≢ Ended.SourceFault }
         ensures count { self.new.count ≤ self.old.count + 1 }
-        ensures faults { FaultsAfter result (H.faults self.old.host) (H.faults self.new.host) }
+        ensures faults { FaultsAfter result (H.faults self.old.file.host) (H.faults self.new.file.host) }
     {
         if self.open_line.as_slice().is_empty() {
             return Ended::AtEnd;
@@ -220,24 +229,24 @@ impl<H: Host> Player<H> {
         room: &mut [u8],
         left: usize,
     ) -> Result<usize, Ended>
-        requires counted { IsCounted self.old.store self.old.count }
+        requires counted { IsCounted self.old.file.store self.old.file.ledger self.old.count }
         requires small { self.old.count + left ≤ SCRIPT_LIMIT + 1 }
         requires some { 0 < length room.old }
         requires within { length room.old ≤ left }
         ensures fed { IfOk result (λ n. (1 ≤ n) × (n < left) × (self.new.count ≤ self.old.count + n)) }
         ensures few { self.new.count ≤ SCRIPT_LIMIT + 1 }
-        ensures counted { OnOk result (IsCounted self.new.store self.new.count) }
-        ensures taken { IfOk result (λ n. IsTrue S.tells → IsTrue H.tells → (base taken script : List ℕ) → script ≡ taken ++ S.rest source.old
-            → HasTaken base (H.disk self.old.host).said taken self.old.store self.old.open_line.items self.old.count
-            → Feeds base (H.disk self.new.host).said taken script (S.rest source.new) self.new.store self.new.open_line.items self.new.count n) }
-        ensures ends { IfErr result (λ why. IsTrue S.tells → IsTrue H.tells → (base taken script : List ℕ) → script ≡ taken ++ S.rest source.old
+        ensures counted { OnOk result (IsCounted self.new.file.store self.new.file.ledger self.new.count) }
+        ensures taken { IfOk result (λ n. IsTrue S.tells → (base : Seen) (taken script : List ℕ) → script ≡ taken ++ S.rest source.old
+            → HasTaken H.tells base (seen (H.disk self.old.file.host)) taken self.old.file.store self.old.file.ledger self.old.open_line.items self.old.count
+            → Feeds H.tells base (seen (H.disk self.new.file.host)) taken script (S.rest source.new) self.new.file.store self.new.file.ledger self.new.open_line.items self.new.count n) }
+        ensures ends { IfErr result (λ why. IsTrue S.tells → (base : Seen) (taken script : List ℕ) → script ≡ taken ++ S.rest source.old
             → length taken + left ≡ SCRIPT_LIMIT + 1
-            → HasTaken base (H.disk self.old.host).said taken self.old.store self.old.open_line.items self.old.count
-            → EndsBy why base (H.disk self.new.host).said script (S.rest source.new) self.new.count) }
+            → HasTaken H.tells base (seen (H.disk self.old.file.host)) taken self.old.file.store self.old.file.ledger self.old.open_line.items self.old.count
+            → EndsBy why H.tells base (seen (H.disk self.new.file.host)) script (S.rest source.new) self.new.count) }
         ensures source { result ≡ Err Ended.SourceFault → risen (S.faults source.old) ≤ S.faults source.new }
         ensures counts { S.faults source.old ≤ S.faults source.new }
-        ensures untroubled { OnOk result (H.faults self.new.host ≡ H.faults self.old.host) }
-        ensures faults { IfErr result (λ why. FaultsAfter why (H.faults self.old.host) (H.faults self.new.host)) }
+        ensures untroubled { OnOk result (H.faults self.new.file.host ≡ H.faults self.old.file.host) }
+        ensures faults { IfErr result (λ why. FaultsAfter why (H.faults self.old.file.host) (H.faults self.new.file.host)) }
     {
         let n = match source.read(room) {
             Ok(n) => n,
@@ -255,13 +264,13 @@ impl<H: Host> Player<H> {
 
     /// Runs the script of a source, to its end or to what ends it before.
     pub(crate) fn run<S: Source>(&mut self, source: &mut S) -> Ended
-        requires counted { IsCounted self.old.store self.old.count }
+        requires counted { IsCounted self.old.file.store self.old.file.ledger self.old.count }
         requires none { self.old.count ≡ 0 }
-        ensures ends { IsTrue S.tells → IsTrue H.tells → (base : List ℕ)
-            → HasTaken base (H.disk self.old.host).said [] self.old.store self.old.open_line.items self.old.count
-            → EndsBy result base (H.disk self.new.host).said (S.rest source.old) (S.rest source.new) self.new.count }
+        ensures ends { IsTrue S.tells → (base : Seen)
+            → HasTaken H.tells base (seen (H.disk self.old.file.host)) [] self.old.file.store self.old.file.ledger self.old.open_line.items self.old.count
+            → EndsBy result H.tells base (seen (H.disk self.new.file.host)) (S.rest source.old) (S.rest source.new) self.new.count }
         ensures source { result ≡ Ended.SourceFault → risen (S.faults source.old) ≤ S.faults source.new }
-        ensures faults { FaultsAfter result (H.faults self.old.host) (H.faults self.new.host) }
+        ensures faults { FaultsAfter result (H.faults self.old.file.host) (H.faults self.new.file.host) }
         ensures few { self.new.count ≤ SCRIPT_LIMIT + 1 }
     {
         let mut room = [0; ROOM];

@@ -1,11 +1,15 @@
-ghost use Rattle.std.specs.Prelude.{◌≡◌, ◌≢◌, ◌+◌, ◌^◌, ◌<◌, ◌≤◌, ◌⊎◌, ℕ, List, [], ◌∷◌, ◌++◌, IsTrue, length, map, codes, IfOk, ◌↔◌};
+ghost use Rattle.std.specs.Prelude.{◌≡◌, ◌≢◌, ◌+◌, ◌^◌, ◌<◌, ◌≤◌, ◌⊎◌, ℕ, List, [], ◌∷◌, ◌++◌, IsTrue, length, take, map, codes, IfOk, ◌↔◌};
 ghost use Rattle.std.specs.Prelude.{nat_eq};
 ghost use Rattle.std.specs.Cmp.Lexicographic.{pointwise};
 ghost use Rattle.std.specs.String.{string_bytes};
 ghost use Rattle.block_host.specs.Disk.{risen};
-ghost use Rattle.play_run.specs.Script.{AreWords, RunsAll, RunsPrefix, MeetsBad, bad_line};
-ghost use Rattle.play_run.specs.Play.{SaysSince, Takes, RunsAndSays, words_refused, source_fault};
+ghost use Rattle.play_run.specs.Ledger.{IsNewStore, seen};
+ghost use Rattle.play_run.specs.Progress.{EndsWith, SaysEnd, IsStart};
+ghost use Rattle.play_run.specs.Script.{AreWords, RunsAll, RunsPrefix, MeetsBad, HoldsBad, EndsBad, IsGood, bad_line};
+ghost use Rattle.play_run.specs.Play.{Leaves, Says, SaysPart, MaySay, PartSaid, SaidThen, Takes, Rests, RunsAndSays, words_refused, source_fault, no_store};
 
+use crate::ledger::Ledger;
+use crate::opening::is_new_store;
 use crate::player::{Ended, Player};
 use block_host::{Failed, Host, Source};
 use std::alloc::{AllocError, Global};
@@ -13,7 +17,7 @@ use std::alloc::{AllocError, Global};
 /// How a program ended, and its host.
 #[derive(Debug, Drop)]
 pub struct Played<H> {
-    /// The exit status, 0 to 5.
+    /// The exit status, 0 to 5 or 7.
     pub status: u8,
     pub host: H,
 }
@@ -51,7 +55,8 @@ fn bad_line_text(alloc: Global, number: u64) -> Result<String, AllocError>
 /// Says a last text, and ends with a status; with 4 where the host fails.
 fn end_with<H: Host>(host: H, text: &[u8], status: u8) -> Played<H>
     requires { status ≢ 4 }
-    ensures said { result.status ≢ 4 → IsTrue H.tells → (H.disk result.host).said ≡ (H.disk host).said ++ text.now }
+    ensures said { result.status ≢ 4 → IsTrue H.tells → SaidThen text.now (seen (H.disk host)) (seen (H.disk result.host)) }
+    ensures part { result.status ≡ 4 → IsTrue H.tells → PartSaid text.now (seen (H.disk host)) (seen (H.disk result.host)) }
     ensures status { (result.status ≡ status) ⊎ (result.status ≡ 4) }
     ensures untroubled { result.status ≢ 4 → H.faults result.host ≡ H.faults host }
     ensures fault { result.status ≡ 4 → risen (H.faults host) ≤ H.faults result.host }
@@ -67,14 +72,11 @@ fn end_with<H: Host>(host: H, text: &[u8], status: u8) -> Played<H>
 /// Ends as a run of so many lines did.
 fn finish<H: Host>(alloc: Global, host: H, ended: Ended, count: u64) -> Played<H>
     requires { count + 1 < 2 ^ 64 }
-    ensures all { result.status ≡ 0 → (ended ≡ Ended.AtEnd) × (IsTrue H.tells → (H.disk result.host).said ≡ (H.disk host).said) }
-    ensures source { result.status ≡ 2 → (ended ≡ Ended.SourceFault) × (IsTrue H.tells → (H.disk result.host).said ≡ (H.disk host).said ++ source_fault) }
-    ensures bad { result.status ≡ 3 → (ended ≡ Ended.BadLine) × (IsTrue H.tells → (H.disk result.host).said ≡ (H.disk host).said ++ bad_line (count + 1)) }
-    ensures memory { result.status ≡ 5 → ((ended ≡ Ended.NoMemory) ⊎ (ended ≡ Ended.BadLine)) × (IsTrue H.tells → (H.disk result.host).said ≡ (H.disk host).said) }
+    ensures ends { EndsWith ended result.status }
+    ensures said { IsTrue H.tells → SaysEnd ended result.status count (seen (H.disk host)) (seen (H.disk result.host)) }
     ensures host { result.status ≡ 4 → (ended ≡ Ended.HostFault) ⊎ (risen (H.faults host) ≤ H.faults result.host) }
     ensures counts { H.faults host ≤ H.faults result.host }
     ensures untroubled { result.status ≢ 4 → (ended ≢ Ended.HostFault) × (H.faults result.host ≡ H.faults host) }
-    ensures statuses { (result.status ≢ 1) × (result.status ≤ 5) }
 {
     match ended {
         Ended::AtEnd => Played { status: 0, host },
@@ -88,8 +90,40 @@ fn finish<H: Host>(alloc: Global, host: H, ended: Ended, count: u64) -> Played<H
     }
 }
 
-/// Runs the script of a source over a new store in memory, line by line, and says one reply line per line.
-/// A line is run as soon as it is whole. The words are `play --memory` exactly.
+/// Runs the script of a source over the new store that the host holds.
+fn run_script<S: Source, H: Host>(alloc: Global, source: &mut S, host: H) -> Played<H>
+    requires { IsStart H.tells (seen (H.disk host)) }
+    ensures all { result.status ≡ 0 → IsTrue S.tells → (S.rest source.new ≡ [])
+        × Leaves H.tells (seen (H.disk host)) (seen (H.disk result.host)) (λ first last. RunsAll first last (S.rest source.old)) }
+    ensures source { result.status ≡ 2 → risen (S.faults source.old) ≤ S.faults source.new }
+    ensures said_source { result.status ≡ 2 → IsTrue S.tells
+        → Takes (S.rest source.old) (S.rest source.new) (λ taken. Leaves H.tells (seen (H.disk host)) (seen (H.disk result.host)) (RunsAndSays source_fault taken)) }
+    ensures bad { result.status ≡ 3 → IsTrue S.tells
+        → Takes (S.rest source.old) (S.rest source.new) (λ taken. Leaves H.tells (seen (H.disk host)) (seen (H.disk result.host)) (λ first last. MeetsBad first last taken (S.rest source.new))) }
+    ensures bad_line { IsTrue S.tells → Takes (S.rest source.old) (S.rest source.new) HoldsBad → (result.status ≡ 3) ⊎ ((result.status ≡ 4) ⊎ (result.status ≡ 5)) }
+    ensures bad_end { IsTrue S.tells → Takes (S.rest source.old) (S.rest source.new) (λ taken. EndsBad taken (S.rest source.new)) → (result.status ≡ 2) ⊎ ((result.status ≡ 3) ⊎ ((result.status ≡ 4) ⊎ (result.status ≡ 5))) }
+    ensures host { result.status ≡ 4 → risen (H.faults host) ≤ H.faults result.host }
+    ensures untroubled { result.status ≢ 4 → H.faults result.host ≡ H.faults host }
+    ensures said_host { result.status ≡ 4 → IsTrue S.tells
+        → Takes (S.rest source.old) (S.rest source.new) (λ taken. SaysPart H.tells (seen (H.disk host)) (seen (H.disk result.host)) (MaySay taken (S.rest source.new))) }
+    ensures memory { result.status ≡ 5 → IsTrue S.tells
+        → Takes (S.rest source.old) (S.rest source.new) (λ taken. Says H.tells (seen (H.disk host)) (seen (H.disk result.host)) (λ first last. RunsPrefix first last taken)) }
+    ensures complete { IsTrue S.tells → IsGood (S.rest source.old) → Rests (S.faults source.old) (S.faults source.new)
+        → Rests (H.faults host) (H.faults result.host) → (result.status ≡ 0) ⊎ (result.status ≡ 5) }
+    ensures statuses { (result.status ≢ 1) × (result.status ≤ 5) }
+{
+    let ledger = match Ledger::new(alloc) {
+        Ok(ledger) => ledger,
+        Err(_) => return Played { status: 5, host },
+    };
+    let mut player = Player::new(alloc, host, ledger);
+    let ended = player.run(source);
+    let (host, count) = player.close();
+    finish(alloc, host, ended, count)
+}
+
+/// Runs the script of a source over the new store that the host holds, line by line, writes its file, and says one reply
+/// line per line. A line is run as soon as it is whole. The words are `play --memory` exactly.
 pub fn play<S: Source, H: Host>(
     alloc: Global,
     words: &[String],
@@ -99,35 +133,52 @@ pub fn play<S: Source, H: Host>(
     // Status 1: the words are refused, and nothing is read.
     ensures words { result.status ≡ 1 → ¬ (AreWords (map string_bytes words.now)) }
     ensures refused { ¬ (AreWords (map string_bytes words.now)) → (result.status ≡ 1) ⊎ (result.status ≡ 4) }
-    ensures said_refused { result.status ≡ 1 → IsTrue H.tells → (H.disk result.host).said ≡ (H.disk host).said ++ words_refused }
+    ensures said_refused { result.status ≡ 1 → IsTrue H.tells → SaidThen words_refused (seen (H.disk host)) (seen (H.disk result.host)) }
+
+    // Status 7: the host holds no new store, and nothing is read.
+    ensures no_store { result.status ≡ 7 → IsTrue H.tells → ¬ (IsNewStore (H.disk host).files) }
+    ensures not_new { AreWords (map string_bytes words.now) → IsTrue H.tells → ¬ (IsNewStore (H.disk host).files) → (result.status ≡ 7) ⊎ (result.status ≡ 4) }
+    ensures said_no_store { result.status ≡ 7 → IsTrue H.tells → SaidThen no_store (seen (H.disk host)) (seen (H.disk result.host)) }
 
     // Status 0: all lines were run.
-    ensures all { result.status ≡ 0 → IsTrue S.tells → IsTrue H.tells → (S.rest source.new ≡ [])
-        × SaysSince (H.disk host).said (H.disk result.host).said (RunsAll (S.rest source.old)) }
+    ensures all { result.status ≡ 0 → IsTrue S.tells → (S.rest source.new ≡ [])
+        × Leaves H.tells (seen (H.disk host)) (seen (H.disk result.host)) (λ first last. RunsAll first last (S.rest source.old)) }
 
     // Status 2: the source failed, and all whole lines before were run.
     ensures source { result.status ≡ 2 → risen (S.faults source.old) ≤ S.faults source.new }
-    ensures said_source { result.status ≡ 2 → IsTrue S.tells → IsTrue H.tells
-        → Takes (S.rest source.old) (S.rest source.new) (λ taken. SaysSince (H.disk host).said (H.disk result.host).said (RunsAndSays source_fault taken)) }
+    ensures said_source { result.status ≡ 2 → IsTrue S.tells
+        → Takes (S.rest source.old) (S.rest source.new) (λ taken. Leaves H.tells (seen (H.disk host)) (seen (H.disk result.host)) (RunsAndSays source_fault taken)) }
 
-    // Status 3: all lines before the first bad one were run.
-    ensures bad { result.status ≡ 3 → IsTrue S.tells → IsTrue H.tells
-        → Takes (S.rest source.old) (S.rest source.new) (λ taken. SaysSince (H.disk host).said (H.disk result.host).said (MeetsBad taken (S.rest source.new))) }
+    // Status 3: all lines before the first bad one were run. It comes where there is one, the other causes aside.
+    ensures bad { result.status ≡ 3 → IsTrue S.tells
+        → Takes (S.rest source.old) (S.rest source.new) (λ taken. Leaves H.tells (seen (H.disk host)) (seen (H.disk result.host)) (λ first last. MeetsBad first last taken (S.rest source.new))) }
+    ensures bad_line { IsTrue S.tells → Takes (S.rest source.old) (S.rest source.new) HoldsBad → (result.status ≡ 3) ⊎ ((result.status ≡ 4) ⊎ (result.status ≡ 5)) }
+    ensures bad_end { IsTrue S.tells → Takes (S.rest source.old) (S.rest source.new) (λ taken. EndsBad taken (S.rest source.new)) → (result.status ≡ 2) ⊎ ((result.status ≡ 3) ⊎ ((result.status ≡ 4) ⊎ (result.status ≡ 5))) }
 
-    // Status 4 comes exactly where the host's count rose.
+    // Status 4 comes exactly where the host's count rose. A first part of what is right was said.
     ensures host { result.status ≡ 4 → risen (H.faults host) ≤ H.faults result.host }
     ensures untroubled { result.status ≢ 4 → H.faults result.host ≡ H.faults host }
+    ensures said_host_words { result.status ≡ 4 → ¬ (AreWords (map string_bytes words.now)) → IsTrue H.tells → PartSaid words_refused (seen (H.disk host)) (seen (H.disk result.host)) }
+    ensures said_host_store { result.status ≡ 4 → AreWords (map string_bytes words.now) → IsTrue H.tells → ¬ (IsNewStore (H.disk host).files) → PartSaid no_store (seen (H.disk host)) (seen (H.disk result.host)) }
+    ensures said_host { result.status ≡ 4 → AreWords (map string_bytes words.now) → IsTrue S.tells → IsTrue H.tells → IsNewStore (H.disk host).files
+        → Takes (S.rest source.old) (S.rest source.new) (λ taken. SaysPart H.tells (seen (H.disk host)) (seen (H.disk result.host)) (MaySay taken (S.rest source.new))) }
 
     // Status 5: there was no memory, and a prefix of the lines was run.
-    ensures memory { result.status ≡ 5 → IsTrue S.tells → IsTrue H.tells
-        → Takes (S.rest source.old) (S.rest source.new) (λ taken. SaysSince (H.disk host).said (H.disk result.host).said (RunsPrefix taken)) }
-    ensures statuses { result.status ≤ 5 }
+    ensures memory { result.status ≡ 5 → IsTrue S.tells
+        → Takes (S.rest source.old) (S.rest source.new) (λ taken. Says H.tells (seen (H.disk host)) (seen (H.disk result.host)) (λ first last. RunsPrefix first last taken)) }
+
+    // Where nothing fails and the script is right, all of it is run.
+    ensures complete { AreWords (map string_bytes words.now) → IsTrue S.tells → IsTrue H.tells → IsNewStore (H.disk host).files → IsGood (S.rest source.old)
+        → Rests (S.faults source.old) (S.faults source.new) → Rests (H.faults host) (H.faults result.host) → (result.status ≡ 0) ⊎ (result.status ≡ 5) }
+    ensures statuses { (result.status ≤ 5) ⊎ (result.status ≡ 7) }
 {
     if !are_words(words) {
         return end_with(host, b"words refused\n", 1);
     }
-    let mut player = Player::new(alloc, host);
-    let ended = player.run(source);
-    let (host, count) = player.close();
-    finish(alloc, host, ended, count)
+    let mut host = host;
+    match is_new_store(&mut host) {
+        Ok(true) => run_script(alloc, source, host),
+        Ok(false) => end_with(host, b"no store\n", 7),
+        Err(Failed) => Played { status: 4, host },
+    }
 }

@@ -1,7 +1,7 @@
 use Rattle.std.proofs.Common.{ap, sym, ◌∙◌, map, codes}
 use Rattle.std.proofs.lemmas.Bool.{false≢true}
 use Rattle.std.specs.String.{string_bytes}
-use Rattle.play_run.proofs.Ends.{two_words, both_words}
+use Rattle.play_run.proofs.Words.{two_words, both_words}
 use Rattle.play_run.proofs.program.are_words.Goals as goal
 
 pub returns-then-first : goal.returns-then-first

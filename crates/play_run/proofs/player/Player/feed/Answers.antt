@@ -3,23 +3,23 @@ use Rattle.std.proofs.Common.{subst, sym, ap, ◌∙◌, ◌++◌, ◌≡◌, ta
 use Rattle.play_run.proofs.player.Player.feed.Goals as goal
 
 pub returns-in-Err-clause-ends : goal.returns-in-Err-clause-ends
-returns-in-Err-clause-ends g c = λ told tells base taken script source long has.
-    fault_ends base _ taken script _ c.args.self.now.open_line.items c.args.self.now.store c.args.self.now.count has
+returns-in-Err-clause-ends g c = λ told base taken script source long has.
+    fault_ends _ base _ taken script _ c.args.self.now.open_line.items c.args.self.now.file.store c.args.self.now.file.ledger c.args.self.now.count has (omega (arith, long, c.requires.some, c.requires.within))
     (source ∙ ap (λ rest. taken ++ rest) (sym (c.in-Err.ensures.kept told)))
 
 pub returns-then-n-eq0-clause-ends : goal.returns-then-n-eq0-clause-ends
-returns-then-n-eq0-clause-ends g c = λ told tells base taken script source long has.
+returns-then-n-eq0-clause-ends g c = λ told base taken script source long has.
     let none = c.in-Ok.ensures.end told c.requires.some c.if-n-eq0.true in
     let given = c.in-Ok.ensures.given told in
-    at_end c.end.result base _ taken script _ _ _ (c.end.ensures.ends tells base taken has) source none
+    at_end c.end.result _ base _ taken script _ _ _ (c.end.ensures.ends base taken (omega (arith, long, c.requires.some, c.requires.within)) has) source none
     (sym (subst (λ n. g.S.Source.rest c.args.source.now ≡ take n c.read.new.room ++ g.S.Source.rest c.read.new.self) c.if-n-eq0.true given) ∙ none)
 
 pub returns-in-Ok-2-clause-ends : goal.returns-in-Ok-2-clause-ends
-returns-in-Ok-2-clause-ends g c = λ told tells base taken script source long has.
-    read_too_long base _ taken c.read.new.room _ _ script _ _ _ c.in-Ok.n c.min.result (c.in-Ok-2.ensures.taken tells base taken has) (omega (arith, c.min.ensures, c.in-Ok.ensures.count)) (omega (arith, c.in-Ok.ensures.count))
+returns-in-Ok-2-clause-ends g c = λ told base taken script source long has.
+    read_too_long _ base _ taken c.read.new.room _ _ script _ _ _ _ c.in-Ok.n c.min.result (c.in-Ok-2.ensures.taken base taken has) (omega (arith, c.min.ensures, c.in-Ok.ensures.count)) (omega (arith, c.in-Ok.ensures.count))
     (c.in-Ok.ensures.given told) source (omega (arith, c.if-n-left.false, c.in-Ok.ensures.count))
 
 pub returns-in-Err-take_bytes-clause-ends : goal.returns-in-Err-take_bytes-clause-ends
-returns-in-Err-take_bytes-clause-ends g c = λ told tells base taken script source long has.
-    read_stops _ base _ taken c.read.new.room _ _ script c.in-Ok.n c.min.result _ (c.in-Err-take_bytes.ensures.stops tells base taken has) (omega (arith, c.min.ensures))
+returns-in-Err-take_bytes-clause-ends g c = λ told base taken script source long has.
+    read_stops _ _ base _ taken c.read.new.room _ _ script c.in-Ok.n c.min.result _ (c.in-Err-take_bytes.ensures.stops base taken has) (omega (arith, c.min.ensures))
     (c.in-Ok.ensures.given told) source

@@ -9,13 +9,13 @@ script-preserved g c = record {
   within = omega (arith, c.script.invariant.within);
   untroubled = c.in-Ok.ensures.untroubled ∙ c.script.invariant.untroubled;
   counts = omega (arith, c.script.invariant.counts, c.in-Ok.ensures.counts);
-  taken = λ told tells base has.
-      let before = c.script.invariant.taken told tells base has in
-      let fed = c.in-Ok.ensures.taken told tells base before.0 _ before.1 before.3 in
+  taken = λ told base has.
+      let before = c.script.invariant.taken told base has in
+      let fed = c.in-Ok.ensures.taken told base before.0 _ before.1 before.3 in
       (before.0 ++ fed.more, fed.source, omega (arith, length-append before.0 fed.more, fed.long, before.2, c.in-Ok.ensures.fed.1), fed.has);
 }
 
 pub returns-in-Err-clause-ends : goal.returns-in-Err-clause-ends
-returns-in-Err-clause-ends g c = λ told tells base has.
-    let before = c.script.invariant.taken told tells base has in
-    c.in-Err.ensures.ends told tells base before.0 _ before.1 before.2 before.3
+returns-in-Err-clause-ends g c = λ told base has.
+    let before = c.script.invariant.taken told base has in
+    c.in-Err.ensures.ends told base before.0 _ before.1 before.2 before.3

@@ -3,15 +3,15 @@ use Rattle.play_run.proofs.Taking.{ends_line_by, stops_line_by, among}
 use Rattle.play_run.proofs.player.Player.take_byte.Goals as goal
 
 pub returns-in-Ok-clause-taken : goal.returns-in-Ok-clause-taken
-returns-in-Ok-clause-taken g c = λ tells base taken has.
-    ends_line_by base _ _ taken c.args.self.now.open_line.items _ c.args.self.now.store _ c.args.self.now.count _ c.args.byte has
-    (c.in-Ok.ensures.run tells base) c.if-byte-eq10.true c.in-Ok.ensures.open_line
+returns-in-Ok-clause-taken g c = λ base taken has.
+    ends_line_by _ base _ _ taken c.args.self.now.open_line.items _ c.args.self.now.file.store _ c.args.self.now.file.ledger _ c.args.self.now.count _ c.args.byte has
+    (c.in-Ok.ensures.run base) c.if-byte-eq10.true c.in-Ok.ensures.open_line
 
 pub returns-in-Err-clause-stops : goal.returns-in-Err-clause-stops
-returns-in-Err-clause-stops g c = λ tells base taken has.
-    stops_line_by _ base _ _ taken c.args.self.now.open_line.items c.args.self.now.store c.args.self.now.count _ c.args.byte has
-    (c.in-Err.ensures.stops tells) c.in-Err.ensures.same_count c.if-byte-eq10.true
+returns-in-Err-clause-stops g c = λ base taken has.
+    stops_line_by _ _ base _ _ taken c.args.self.now.open_line.items c.args.self.now.file.store c.args.self.now.file.ledger c.args.self.now.count _ c.args.byte has
+    c.in-Err.ensures.stops c.in-Err.ensures.same_count c.if-byte-eq10.true
 
 pub returns-then-is_err-clause-stops : goal.returns-then-is_err-clause-stops
-returns-then-is_err-clause-stops g c = λ tells base taken has.
-    among base _ _ taken (c.args.byte ∷ []) c.args.self.now.open_line.items c.args.self.now.store c.args.self.now.count has refl
+returns-then-is_err-clause-stops g c = λ base taken has.
+    among _ base _ _ taken (c.args.byte ∷ []) c.args.self.now.open_line.items c.args.self.now.file.store c.args.self.now.file.ledger c.args.self.now.count has (λ _. refl)
