@@ -92,7 +92,7 @@ at_most_one : (b : Bool) → cond b 0 1 ≤ 1
 at_most_one true = omega arith
 at_most_one false = omega arith
 
-bytes-append : (a b : List Block) → bytes_of (a ++ b) ≡ bytes_of a ++ bytes_of b
+pub bytes-append : (a b : List Block) → bytes_of (a ++ b) ≡ bytes_of a ++ bytes_of b
 bytes-append [] b = refl
 bytes-append (x ∷ a) b = ap (λ xs. x.bytes ∷ xs) (bytes-append a b)
 

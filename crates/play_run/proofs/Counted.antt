@@ -116,33 +116,3 @@ counted_new = record {
 
 pub counted_first : (p : PlainStore) (at : Place) → p ≡ new_plain → at ≡ new_place → IsCounted p at 0
 counted_first p at store place = subst (λ (s : PlainStore). IsCounted s at 0) (sym store) (subst (λ (a : Place). IsCounted new_plain a 0) (sym place) counted_new)
-
--- ---- what a commit is
-
-pub commit_same : (tells : Bool) (p q : PlainStore) (at at' : Place) (before now : Seen) (number : ℕ) → eqb p.seq p.committed ≡ true → q ≡ (plain_answer p Commit).1 → at' ≡ at → number ≡ q.commit
-    → (IsTrue tells → now ≡ before) → RunsVerb tells p q at at' before now Commit (Committed number)
-commit_same tells p q at at' before now number same stored place number_is seen_is = record {
-  answer = ap Committed (number_is ∙ ap (λ (s : PlainStore). s.commit) (stored ∙ ap (λ b. (cond {A = Said × PlainStore} b (Committed p.commit, p) (Committed (p.commit + 1), after_commit p)).1) same))
-      ∙ sym (ap (λ b. (cond {A = Said × PlainStore} b (Committed p.commit, p) (Committed (p.commit + 1), after_commit p)).0) same);
-  stored = stored;
-  more = [];
-  puts = subst (λ b. MatchBool b (([] ≡ []) × (at' ≡ at)) (PutsHeader (after_commit p) at at' [])) (sym same) (refl, place);
-  silent = λ told. ap (λ (s : Seen). s.said) (seen_is told);
-  file = λ told. ap (λ (s : Seen). s.file) (seen_is told) ∙ sym (append-none before.file);
-} where
-  append-none : {A : Type 0} (xs : List A) → xs ++ [] ≡ xs
-  append-none [] = refl
-  append-none (x ∷ xs) = ap (λ ys. x ∷ ys) (append-none xs)
-
-pub commit_new : (tells : Bool) (p q : PlainStore) (at at' : Place) (before now : Seen) (number : ℕ) (more : List Block) → eqb p.seq p.committed ≡ false → q ≡ (plain_answer p Commit).1 → number ≡ q.commit
-    → PutsHeader q at at' more → (IsTrue tells → now.said ≡ before.said) → (IsTrue tells → now.file ≡ before.file ++ bytes_of more) → RunsVerb tells p q at at' before now Commit (Committed number)
-commit_new tells p q at at' before now number more new stored number_is puts silent file =
-    let is : q ≡ after_commit p = stored ∙ ap (λ b. (cond {A = Said × PlainStore} b (Committed p.commit, p) (Committed (p.commit + 1), after_commit p)).1) new in
-    record {
-      answer = ap Committed (number_is ∙ ap (λ (s : PlainStore). s.commit) is) ∙ sym (ap (λ b. (cond {A = Said × PlainStore} b (Committed p.commit, p) (Committed (p.commit + 1), after_commit p)).0) new);
-      stored = stored;
-      more = more;
-      puts = subst (λ b. MatchBool b ((more ≡ []) × (at' ≡ at)) (PutsHeader (after_commit p) at at' more)) (sym new) (subst (λ (s : PlainStore). PutsHeader s at at' more) is puts);
-      silent = silent;
-      file = file;
-    }

@@ -6,10 +6,12 @@ mod Starting
 mod PlainSteps
 mod PlainSaid
 mod Counted
+mod Committing
 mod Runs
 mod Taking
 mod Stopping
 mod Ending
 mod Cuts
 mod Ends
+mod Scripts
 mod Words

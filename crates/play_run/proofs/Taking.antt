@@ -1,7 +1,8 @@
 -- What the next byte of a script leaves of what was taken.
-use Rattle.std.proofs.Common.{◌≡◌, ◌≢◌, ℕ, ◌<◌, Bool, List, [], ◌∷◌, ◌++◌, length, take, drop, get_or, suc, sym, ap, subst, ◌∙◌, append_assoc, append-nil, drop-cons, inl, inr}
+use Rattle.std.proofs.Common.{◌≡◌, ◌≢◌, ℕ, ◌+◌, ◌<◌, Bool, List, [], ◌∷◌, ◌++◌, length, take, drop, get_or, suc, sym, ap, subst, ◌∙◌, append_assoc, append-nil, drop-cons, arith, inl, inr}
 use Rattle.std.specs.Prelude.{IsTrue, ◌⊎◌}
 use Rattle.std.proofs.lemmas.List.{take-append-drop}
+use Rattle.std.proofs.Math.Seq.{take-suc}
 use Rattle.play_run.specs.Script.{IsText, ended}
 use Rattle.play_run.specs.Ledger.{Place, Seen}
 use Rattle.play_run.specs.Progress.{HasRun, HasTaken, HasHeard, HasHeardPart, Stops, StopsText, StopsAmong, StopsInPart}
@@ -137,3 +138,11 @@ stops_within why tells base heard taken bytes i byte count small is s =
       whole : (front xs : List ℕ) (i byte : ℕ) → i < length xs → byte ≡ get_or xs i 0 → (((front ++ take i xs) ++ byte ∷ []) ++ drop (suc i) xs) ≡ front ++ xs
       whole front xs i byte small is = append_assoc (front ++ take i xs) (byte ∷ []) (drop (suc i) xs) ∙ append_assoc front (take i xs) (byte ∷ drop (suc i) xs)
           ∙ ap (λ ys. front ++ ys) (ap (λ b. take i xs ++ (b ∷ drop (suc i) xs)) is ∙ ap (λ ys. take i xs ++ ys) (sym (drop-cons xs i 0 small)) ∙ take-append-drop i xs)
+
+pub byte_taken : (tells : Bool) (base heard : Seen) (taken bytes line_open : List ℕ) (p : PlainStore) (at : Place) (i byte count : ℕ) → i < length bytes → byte ≡ get_or bytes i 0
+    → HasTaken tells base heard ((taken ++ take i bytes) ++ byte ∷ []) p at line_open count → HasTaken tells base heard (taken ++ take (i + 1) bytes) p at line_open count
+byte_taken tells base heard taken bytes line_open p at i byte count small is has =
+    subst (λ xs. HasTaken tells base heard xs p at line_open count)
+    (append_assoc taken (take i bytes) (byte ∷ []) ∙ ap (λ b. taken ++ (take i bytes ++ b ∷ [])) is ∙ ap (λ xs. taken ++ xs) (next bytes i small)) has where
+      next : (xs : List ℕ) (i : ℕ) → i < length xs → take i xs ++ get_or xs i 0 ∷ [] ≡ take (i + 1) xs
+      next xs i small = sym (take-suc xs i 0 small) ∙ ap (λ (k : ℕ). take k xs) (let e : suc i ≡ i + 1 = omega arith in e)

@@ -1,7 +1,9 @@
-// A host for tests: it keeps what it is told to say, counts the bytes where others see it, and may fail at one call.
+// A host for tests: it holds the files of a new store, keeps what it is told to say, counts the bytes where others see
+// it, and may fail at one call.
 ghost use Rattle.std.specs.Prelude.{[], false};
 ghost use Rattle.block_host.specs.Disk.{untold, not_told};
 
+use crate::opening::{first_header, first_slot};
 use block_host::{Block, Failed, Fresh, Host, Settled, View};
 use std::alloc::{AllocError, Global};
 use std::sync::Arc;
@@ -10,6 +12,8 @@ use std::sync::atomic::{AtomicUsize, Ordering};
 #[derive(Drop)]
 pub(crate) struct Listener {
     pub(crate) said: Vec<u8>,
+    /// The blocks of file 1.
+    pub(crate) file: Vec<Block>,
     /// How many bytes were said.
     pub(crate) heard: Arc<AtomicUsize>,
     /// The number of the `say` that fails, counted from 1; 0 where none does.
@@ -19,8 +23,11 @@ pub(crate) struct Listener {
 
 impl Listener {
     pub(crate) fn new(alloc: Global) -> Result<Listener, AllocError> {
+        let mut file = Vec::new(alloc);
+        file.push(first_header())?;
         Ok(Listener {
             said: Vec::new(alloc),
+            file,
             heard: Arc::new(alloc, AtomicUsize::new(0))?,
             fails_at: 0,
             faults: 0,
@@ -98,15 +105,32 @@ impl Host for Listener {
 
     ghost fresh_files_tell = { λ told. not_told told };
 
-    fn size(&mut self, _file: u64) -> Result<u64, Failed> {
-        Ok(0)
+    fn size(&mut self, file: u64) -> Result<u64, Failed> {
+        match file {
+            0 => Ok(2),
+            1 => Ok(self.file.len() as u64),
+            _ => Ok(0),
+        }
     }
 
-    fn read(&mut self, _file: u64, _at: u64, _out: &mut Block) -> Result<(), Failed> {
+    fn read(&mut self, file: u64, at: u64, out: &mut Block) -> Result<(), Failed> {
+        *out = Block::zeros();
+        if file == 0 && at == 0 {
+            *out = first_slot();
+        }
+        if file == 1 && let Some(block) = self.file.get(at as usize) {
+            *out = *block;
+        }
         Ok(())
     }
 
-    fn append(&mut self, _file: u64, _blocks: &[Block]) -> Result<(), Failed> {
+    fn append(&mut self, _file: u64, blocks: &[Block]) -> Result<(), Failed> {
+        for block in blocks {
+            if self.file.push(*block).is_err() {
+                self.faults = self.faults.saturating_add(1);
+                return Err(Failed);
+            }
+        }
         Ok(())
     }
 

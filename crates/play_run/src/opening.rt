@@ -54,14 +54,14 @@ fn is_block<H: Host>(host: &mut H, file: u64, at: u64, block: &Block) -> Result<
 }
 
 // Slot 0 of the meta file, which names revision 1 in generation 1.
-fn first_slot() -> Block
+pub(crate) fn first_slot() -> Block
     ensures { IsSealed 0 0 5 (slot_bytes 1 1) result }
 {
     seal(5, 0, 0, &[0, 0, 0, 0, 0, 0, 0, 1, 0, 0, 0, 0, 0, 0, 0, 1])
 }
 
 // The header of commit 0, as the block that a new file begins with.
-fn first_header() -> Block
+pub(crate) fn first_header() -> Block
     ensures { IsSealed 1 0 4 (header_bytes new_header) result }
 {
     header_block(&new_header(), 0)

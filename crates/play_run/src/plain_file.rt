@@ -168,7 +168,10 @@ impl<H: Host> PlainFile<H> {
     {
         let block = self.ledger.pad();
         let header = self.ledger.header(&self.store);
-        append_commit(&mut self.host, block, &header)
+        match append_commit(&mut self.host, block, &header) {
+            Ok(()) => Ok(()),
+            Err(Failed) => Err(Failed),
+        }
     }
 }
 

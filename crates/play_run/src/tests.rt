@@ -249,6 +249,19 @@ fn a_source_and_a_host_that_fail(rt: HostRuntime) -> Result<(), Fail> {
     Ok(())
 }
 
+#[test]
+fn a_host_without_a_new_store(rt: HostRuntime) -> Result<(), Fail> {
+    let alloc = rt.alloc();
+    let mut host = Listener::new(alloc)?;
+    host.file.clear();
+    let words = words(alloc, ["play", "--memory"].as_slice())?;
+    let mut source = MemorySource::new(b"0 commit\n".to_vec(alloc)?);
+    let played = play(alloc, words.as_slice(), &mut source, host);
+    assert_eq!(rt; played.status, 7);
+    assert_eq!(rt; played.host.said.as_slice(), b"no store\n".as_slice());
+    Ok(())
+}
+
 // The same byte for ever.
 #[derive(Drop)]
 struct Endless;

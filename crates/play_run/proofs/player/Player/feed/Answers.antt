@@ -1,5 +1,5 @@
-use Rattle.play_run.proofs.Ending.{fault_ends, at_end, read_stops, read_too_long}
-use Rattle.std.proofs.Common.{subst, sym, ap, ◌∙◌, ◌++◌, ◌≡◌, take, arith}
+use Rattle.play_run.proofs.Ending.{fault_ends, at_end, read_stops, read_too_long, feeds}
+use Rattle.std.proofs.Common.{subst, sym, ap, ◌∙◌, ◌++◌, ◌≡◌, take, arith, length-take}
 use Rattle.play_run.proofs.player.Player.feed.Goals as goal
 
 pub returns-in-Err-clause-ends : goal.returns-in-Err-clause-ends
@@ -23,3 +23,9 @@ pub returns-in-Err-take_bytes-clause-ends : goal.returns-in-Err-take_bytes-claus
 returns-in-Err-take_bytes-clause-ends g c = λ told base taken script source long has.
     read_stops _ _ base _ taken c.read.new.room _ _ script c.in-Ok.n c.min.result _ (c.in-Err-take_bytes.ensures.stops base taken has) (omega (arith, c.min.ensures))
     (c.in-Ok.ensures.given told) source
+
+pub returns-in-Ok-take_bytes-clause-taken : goal.returns-in-Ok-take_bytes-clause-taken
+returns-in-Ok-take_bytes-clause-taken g c = λ told base taken script source has.
+    let whole : c.min.result ≡ c.in-Ok.n = omega (arith, c.min.ensures, c.if-n-left.true) in
+    feeds _ base _ taken (take c.min.result c.read.new.room) _ _ script _ _ _ _ c.in-Ok.n (c.in-Ok-take_bytes.ensures.taken base taken has)
+    (c.in-Ok.ensures.given told ∙ ap (λ n. take n c.read.new.room ++ g.S.Source.rest c.read.new.self) (sym whole)) source (omega (arith, length-take c.min.result c.read.new.room, whole, c.in-Ok.ensures.count))

@@ -1,0 +1,22 @@
+use Rattle.play_run.proofs.Scripts.{takes_no_bad, takes_no_end, nothing_said, leaves_from}
+use Rattle.play_run.proofs.program.play.Goals as goal
+
+pub returns-then-not-are_words-clause-bad_line : goal.returns-then-not-are_words-clause-bad_line
+returns-then-not-are_words-clause-bad_line g c = λ told taken. absurd (takes_no_bad _ taken)
+
+pub returns-then-not-are_words-clause-bad_end : goal.returns-then-not-are_words-clause-bad_end
+returns-then-not-are_words-clause-bad_end g c = λ told taken. absurd (takes_no_end _ taken)
+
+pub returns-in-Ok-false-clause-bad_line : goal.returns-in-Ok-false-clause-bad_line
+returns-in-Ok-false-clause-bad_line g c = λ told taken. absurd (takes_no_bad _ taken)
+
+pub returns-in-Ok-false-clause-bad_end : goal.returns-in-Ok-false-clause-bad_end
+returns-in-Ok-false-clause-bad_end g c = λ told taken. absurd (takes_no_end _ taken)
+
+pub returns-in-Err-clause-said_host : goal.returns-in-Err-clause-said_host
+returns-in-Err-clause-said_host g c = λ status words told tells new. nothing_said _ _ _ _ _ (λ _. c.in-Err.ensures.seen tells)
+
+pub returns-in-Ok-true-clause-said_source : goal.returns-in-Ok-true-clause-said_source
+returns-in-Ok-true-clause-said_source g c = λ status told.
+    let t = c.run_script.ensures.said_source status told in
+    (t.0, t.1, leaves_from _ _ _ _ _ (λ tells. c.in-Ok-true.ensures.seen tells) t.2)
