@@ -16,7 +16,8 @@ use Rattle.forest_model.specs.declared.line.Told.{Told}
 use Rattle.forest_model.specs.declared.line.Verb.{Verb}
 use Rattle.forest_model.specs.declared.line.Verb.TheVariants.{Set, Get, Commit}
 use Rattle.play_run.specs.Built.{is_built, is_built_verb, is_own_word}
-use Rattle.play_run.specs.Plain.{AreWithin, plain_answer, after_set, after_commit, new_plain, live_bytes}
+use Rattle.play_run.specs.Plain.{AreWithin, plain_answer, after_set, after_commit, new_plain}
+use Rattle.file_image.specs.Commits.{live_bytes}
 use Rattle.play_run.specs.Ledger.{Place, Seen, PutsLine, PutsRecord, PutsHeader, RunsVerb, record_of, listed, bytes_of, new_place}
 use Rattle.play_run.specs.Progress.{IsCounted, RunsText}
 use Rattle.play_run.specs.declared.plain.PlainStore.{PlainStore}

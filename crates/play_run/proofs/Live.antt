@@ -15,7 +15,8 @@ use Rattle.forest_model.specs.Key.{key_cmp}
 use Rattle.forest_model.specs.Documents.{Map, Entry}
 use Rattle.forest_model.specs.declared.documents.DocKey.{DocKey}
 use Rattle.forest_model.specs.declared.documents.Doc.{Doc}
-use Rattle.play_run.specs.Plain.{live_of, live_bytes, replaced}
+use Rattle.play_run.specs.Plain.{replaced}
+use Rattle.file_image.specs.Commits.{live_of, live_bytes}
 
 exact_keys : CmpEqualImpliesEq key_cmp
 exact_keys a b h =

@@ -9,7 +9,8 @@ use Rattle.block_host.specs.declared.block.Block.{Block}
 use Rattle.header_block.specs.Layout.{header_bytes}
 use Rattle.meta_slots.specs.Slots.{slot_bytes}
 use Rattle.forest_model.specs.Blocks.{File, is_header, last_header}
-use Rattle.play_run.specs.Ledger.{IsNewStore, Seen, new_header, bytes_of}
+use Rattle.play_run.specs.Ledger.{Seen, bytes_of}
+use Rattle.file_image.specs.NewStore.{IsNewStore, new_header}
 use Rattle.play_run.specs.Progress.{IsStart, IsFirst}
 use Rattle.play_run.proofs.SealedBytes.{kind_at, from_of}
 use Rattle.play_run.proofs.Headers.{last-new}

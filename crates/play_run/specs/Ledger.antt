@@ -17,7 +17,7 @@ use Rattle.forest_model.specs.declared.line.Verb.TheVariants.{Set, Get, Commit}
 use Rattle.forest_model.specs.declared.stored.Rec.{Rec}
 use Rattle.forest_model.specs.declared.stored.Header.{Header}
 use Rattle.header_block.specs.Layout.{header_bytes}
-use Rattle.meta_slots.specs.Slots.{slot_bytes}
+use Rattle.file_image.specs.NewStore.{default_row}
 use Rattle.play_run.specs.Plain.{after_commit, plain_answer, plain_told}
 use Rattle.play_run.specs.declared.plain.PlainStore.{PlainStore}
 
@@ -35,33 +35,6 @@ pub record Seen : Type 0 where
 
 abbrev pub seen : Disk → Seen
 seen disk = record { said = disk.said; file = current disk }
-
--- the one store of a header, at a sequence number and with so many documents
-abbrev pub default_row : ℕ → ℕ → StoreRow
-default_row seq documents = record { id = 0; name = codes "default"; seq = seq; documents = documents }
-
--- the header of a new store: commit 0, no documents
-abbrev pub new_header : Header
-new_header = record {
-  commit = 0;
-  next_commit = 1;
-  previous = None;
-  key = None;
-  seq = None;
-  wal_from = 1;
-  live = 0;
-  next_store = 1;
-  stores = default_row 0 0 ∷ [];
-}
-
--- The files of a new store: slot 0 of the meta file names revision 1 in generation 1, slot 1 is zeros, and file 1 has the header of commit 0.
-pub record IsNewStore (image : Image) : Type 0 where
-  pub slot : Block
-  pub header : Block
-  pub slot_is : IsSealed 0 0 5 (slot_bytes 1 1) slot
-  pub header_is : IsSealed 1 0 4 (header_bytes new_header) header
-  pub meta : image 0 ≡ slot ∷ zero_block ∷ []
-  pub file : image 1 ≡ header ∷ []
 
 -- where the file's writer is: its open block, and the block of its last header
 pub record Place : Type 0 where

@@ -1,8 +1,9 @@
 -- What the plain store of the first path stands for, and what it answers.
-use Rattle.std.specs.Prelude.{◌≡◌, ℕ, ◌+◌, ◌*◌, ◌<◌, ◌≤◌, false, ◌==◌, List, [], ◌∷◌, codes, Option, None, sum_by, if◌then◌else◌}
+use Rattle.std.specs.Prelude.{◌≡◌, ℕ, ◌+◌, ◌*◌, ◌<◌, ◌≤◌, false, ◌==◌, List, [], ◌∷◌, codes, Option, None, if◌then◌else◌}
 use Rattle.std.specs.Option.{option_map_or}
 use Rattle.std.specs.FinMap as finite
-use Rattle.forest_model.specs.Documents.{Map, Entry, key_at, doc_of, doc_at}
+use Rattle.file_image.specs.Commits.{live_bytes}
+use Rattle.forest_model.specs.Documents.{Map, key_at, doc_of, doc_at}
 use Rattle.forest_model.specs.State.{usual_limits}
 use Rattle.forest_model.specs.Step.{found_of, record_length}
 use Rattle.forest_model.specs.Session.{Session, Lane, with_lane, first_lane}
@@ -65,13 +66,6 @@ pub record Stands (p : PlainStore) (h : Hidden) : Type 0 where
   pub commit : p.commit ≤ p.place
   pub same : p.seq ≡ p.committed → p.documents ≡ h.old
   pub open_block : h.loose < 4064
-
--- the bytes of a document's record, and of the records of all documents
-abbrev pub live_of : Entry → ℕ
-live_of e = record_length e.0.key e.1.meta e.1.body
-
-unfoldable pub live_bytes : Map → ℕ
-live_bytes documents = sum_by live_of (finite.entries documents)
 
 -- the bytes of the record of a key's document, where there is one
 abbrev pub replaced : List ℕ → Option Doc → ℕ

@@ -3,7 +3,8 @@ ghost use Rattle.block_host.specs.Disk.{risen};
 ghost use Rattle.block_host.specs.Sealed.{IsSealed};
 ghost use Rattle.header_block.specs.Layout.{header_bytes};
 ghost use Rattle.meta_slots.specs.Slots.{slot_bytes};
-ghost use Rattle.play_run.specs.Ledger.{IsNewStore, new_header, seen};
+ghost use Rattle.play_run.specs.Ledger.{seen};
+ghost use Rattle.file_image.specs.NewStore.{IsNewStore, new_header};
 ghost use Rattle.play_run.specs.Progress.{IsStart};
 ghost use Rattle.block_host.specs.Calls.{block_at};
 

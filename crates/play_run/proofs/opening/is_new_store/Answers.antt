@@ -4,7 +4,8 @@ use Rattle.block_host.specs.Sealed.{zero_block}
 use Rattle.block_host.specs.Calls.{block_at}
 use Rattle.block_host.specs.declared.block.Block.{Block}
 use Rattle.std.specs.Prelude.{IsTrue, ◌↔◌}
-use Rattle.play_run.specs.Ledger.{bytes_of, IsNewStore}
+use Rattle.play_run.specs.Ledger.{bytes_of}
+use Rattle.file_image.specs.NewStore.{IsNewStore}
 use Rattle.play_run.proofs.Starting.{new_store_by, starts_with, one_header}
 use Rattle.play_run.proofs.opening.is_new_store.Goals as goal
 

@@ -1,5 +1,6 @@
 use Rattle.std.proofs.Common.{arith, sym, ap, subst, ◌∙◌, ◌+◌, ◌-◌, ◌*◌, ◌≤◌, ◌≡◌, ℕ}
-use Rattle.play_run.specs.Plain.{replaced, live_bytes, AreWithin, after_set, documents_with}
+use Rattle.play_run.specs.Plain.{replaced, AreWithin, after_set, documents_with}
+use Rattle.file_image.specs.Commits.{live_bytes}
 use Rattle.forest_model.specs.Documents.{Map, key_at, doc_of}
 use Rattle.play_run.proofs.Live.{live-set}
 use Rattle.play_run.proofs.plain.PlainStore.set.Goals as goal
