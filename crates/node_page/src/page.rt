@@ -22,3 +22,18 @@ impl Page {
         }
     }
 }
+
+#[cfg(test)]
+mod tests {
+    use super::*;
+    use std::test::Fail;
+
+    #[test]
+    fn has_the_payload_with_zeros_behind(rt: HostRuntime) -> Result<(), Fail> {
+        let page = Page::of(b"node");
+        assert_eq!(rt; page.len, 4);
+        assert_eq!(rt; &page.bytes[..6], b"node\0\0".as_slice());
+        assert_eq!(rt; page.bytes[4063], 0);
+        Ok(())
+    }
+}
