@@ -78,7 +78,7 @@ fn block_of(n: u64, generation: u64, revision: u64) -> Block
 
 // The two numbers of a slot's payload.
 fn numbers_of(payload: &[u8]) -> Option<(u64, u64)>
-    ensures { MatchOption result (length payload.now ≢ 16) (λ slot. payload.now ≡ slot_bytes slot.0 slot.1) }
+    ensures { MatchOption result (length payload.now ≢ 16) (λ slot. (slot.0 < 2 ^ 64) × (slot.1 < 2 ^ 64) × (payload.now ≡ slot_bytes slot.0 slot.1)) }
 {
     if payload.len() != 16 {
         return None;
