@@ -1,4 +1,4 @@
-ghost use Rattle.std.specs.Prelude.{◌≡◌, ◌<◌, ◌≤◌, [], ◌∷◌, ◌++◌, length, slice_get, map, MatchOption, Some, None};
+ghost use Rattle.std.specs.Prelude.{◌≡◌, ◌<◌, ◌≤◌, [], ◌∷◌, ◌++◌, length, slice_get, map, MatchOption, IfSome, Some, None};
 ghost use Rattle.forest_model.specs.Stored.{row_of};
 
 use crate::bytes::Bytes;
@@ -141,7 +141,8 @@ impl Stores {
 
     /// The store at a place, counted from 0: its id, its name, its sequence number and how many documents it has.
     pub fn at(&self, n: u64) -> Option<(u64, &[u8], u64, u64)>
-        ensures { MatchOption result (slice_get self.now n ≡ None) (λ row. slice_get self.now n ≡ Some (record { id = row.0; name = row.1.now; seq = row.2; documents = row.3 })) }
+        ensures row { MatchOption result (slice_get self.now n ≡ None) (λ row. slice_get self.now n ≡ Some (record { id = row.0; name = row.1.now; seq = row.2; documents = row.3 })) }
+        ensures name { IfSome result (λ row. length row.1.now ≤ 31) }
     {
         let store = self.rows.as_slice().get(n as usize)?;
         Some((store.id, store.name.as_slice(), store.seq, store.documents))

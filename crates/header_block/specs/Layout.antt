@@ -1,5 +1,5 @@
 -- The bytes of a header, and which headers are well-formed.
-use Rattle.std.specs.Prelude.{ℕ, suc, ◌+◌, ◌-◌, ◌^◌, Bool, true, false, ◌&&◌, not, ◌==◌, List, [], ◌∷◌, ◌++◌, length, replicate, codes, Option, nat_le, nat_lt, nat_eq}
+use Rattle.std.specs.Prelude.{ℕ, suc, ◌+◌, ◌-◌, ◌^◌, Bool, true, false, ◌&&◌, not, ◌==◌, List, [], ◌∷◌, ◌++◌, length, replicate, codes, Option, IfSome, ◌≤◌, nat_le, nat_lt, nat_eq}
 use Rattle.std.specs.List.{list_all, flat_map}
 use Rattle.std.specs.Option.{option_map_or}
 use Rattle.std.specs.Cmp.Lexicographic.{pointwise}
@@ -23,6 +23,12 @@ abbrev pub header_bytes : Header → List ℕ
 header_bytes h =
     long h.commit ++ long h.next_commit ++ optional h.previous ++ optional h.key ++ optional h.seq ++ long h.wal_from
     ++ long h.live ++ long h.next_store ++ long (length h.stores) ++ flat_map store_bytes h.stores
+
+-- the blocks that a header names are none past 2 ^ 41
+pub record NamesBlocks (h : Header) : Type 0 where
+  pub previous : IfSome h.previous (λ block. block ≤ 2 ^ 41)
+  pub key : IfSome h.key (λ block. block ≤ 2 ^ 41)
+  pub seq : IfSome h.seq (λ block. block ≤ 2 ^ 41)
 
 -- no number of a header reaches this one
 abbrev pub is_small : ℕ → Bool
