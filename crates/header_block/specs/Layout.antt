@@ -7,7 +7,8 @@ use Rattle.std.specs.Int.{w64, to_be_bytes}
 use Rattle.forest_model.specs.Stored.{StoreRow}
 use Rattle.forest_model.specs.declared.stored.Header.{Header}
 
-abbrev pub long : ℕ → List ℕ
+-- a number in 8 bytes
+unfoldable pub long : ℕ → List ℕ
 long n = to_be_bytes w64 n
 
 -- an optional block: 0 for none, else one more than the block

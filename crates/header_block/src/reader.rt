@@ -72,6 +72,7 @@ impl<'a> Reader<'a> {
         front
     }
 
+    #[tactic(auto, unfolding(crate::specs::Layout::long))]
     fn long(&mut self) -> u64
         requires { 8 ≤ length self.old.rest.now }
         ensures len { length self.new.rest.now + 8 ≡ length self.old.rest.now }

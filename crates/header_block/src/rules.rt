@@ -93,9 +93,11 @@ fn are_apart(stores: &Stores) -> bool
 
 // Whether a store is before each later one.
 fn is_before_later(stores: &Stores, n: u64) -> bool
+    requires { n < length stores.now }
     ensures { (s : StoreRow) → slice_get stores.now n ≡ Some s → result ≡ list_all (is_before s) (drop (n + 1) stores.now) }
 {
-    for later in n + 1..stores.len() {
+    let count = stores.len();
+    for later in n + 1..count {
         if !is_before(stores, n, later) {
             return false;
         }

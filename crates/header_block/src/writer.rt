@@ -52,6 +52,7 @@ impl Writer {
         self.page.len += part.len() as u16;
     }
 
+    #[tactic(auto, unfolding(crate::specs::Layout::long))]
     fn long(&mut self, number: u64)
         requires { self.old.page.len + 8 ≤ 4064 }
         ensures len { self.new.page.len ≡ self.old.page.len + 8 }

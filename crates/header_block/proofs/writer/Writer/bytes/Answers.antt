@@ -1,0 +1,10 @@
+use Rattle.std.proofs.Common.{length, ◌∙◌, arith, length-append}
+use Rattle.header_block.proofs.Written.{put_page}
+use Rattle.header_block.proofs.writer.Writer.bytes.Goals as goal
+
+pub returns-clause-page : goal.returns-clause-page
+returns-clause-page c front is = record {
+  fits = omega (arith, is.len, length-append front c.args.part.now);
+  len = omega (arith, is.len, length-append front c.args.part.now);
+  bytes = put_page 4064 front c.args.part.now c.args.self.now.page.bytes c.copy_from_slice.new.self c.from-from.result (c.from-from.ensures ∙ is.len) is.bytes c.copy_from_slice.ensures.after;
+}
