@@ -5,14 +5,15 @@ use Rattle.std.proofs.lemmas.Option.{get_or_from_slice_get}
 use Rattle.std.specs.List.{flat_map, slice_get}
 use Rattle.std.proofs.lemmas.Slice.{between_to_end}
 use Rattle.forest_model.specs.Stored.{StoreRow}
-use Rattle.forest_model.specs.declared.stored.Header.{Header}
-use Rattle.header_block.specs.Layout.{long, optional, store_bytes}
+use Rattle.header_block.specs.Layout.{store_bytes}
+use Rattle.node_page.specs.declared.page.Page.{Page}
+use Rattle.node_page.specs.Pages.{IsPage}
 use borrow.Rule.Slice.PartMut.{put_mid}
 
 -- a part that is put behind the front
 put_behind : (n : ℕ) (front part : List ℕ) → put_mid (length front) (length part) (front ++ replicate (n - length front) 0) part ≡ (front ++ part) ++ replicate (n - length (front ++ part)) 0
 put_behind n front part =
-    let zeros = replicate (n - length front) 0 in
+    let zeros : List ℕ = replicate (n - length front) 0 in
     ap (λ (xs : List ℕ). xs ++ (part ++ drop (length part) (drop (length front) (front ++ zeros)))) (take_at front zeros (length front) refl)
     ∙ ap (λ (xs : List ℕ). front ++ (part ++ drop (length part) xs)) (drop_at front zeros (length front) refl)
     ∙ ap (λ (xs : List ℕ). front ++ (part ++ xs)) (drop-replicate (length part) (n - length front) 0)
@@ -35,15 +36,13 @@ store_written front id name seq documents len =
     ap (λ (zeros : List ℕ). front ++ id ++ (len ∷ []) ++ name ++ zeros ++ seq ++ documents) (between_to_end (replicate 31 0) (length name) 31 (lit≤ tt) ∙ drop-replicate (length name) 31 0)
     ∙ simp append_assoc
 
--- what stands before the stores
-abbrev pub fields : Header → List ℕ
-fields h =
-    long h.commit ++ long h.next_commit ++ optional h.previous ++ optional h.key ++ optional h.seq ++ long h.wal_from
-    ++ long h.live ++ long h.next_store ++ long (length h.stores)
-
 -- one store more
 pub one_more : (front : List ℕ) (stores : List StoreRow) (n : ℕ) (s : StoreRow) → n < length stores → slice_get stores n ≡ Some s
     → (front ++ flat_map store_bytes (take n stores)) ++ store_bytes s ≡ front ++ flat_map store_bytes (take (n + 1) stores)
 one_more front stores n s within there =
     flat_map_more store_bytes front (take n stores) s
     ∙ ap (λ (rows : List StoreRow). front ++ flat_map store_bytes rows) (ap (λ (r : StoreRow). take n stores ++ r ∷ []) (sym (get_or_from_slice_get stores n s s there)) ∙ sym (take_more stores n s within))
+
+-- what a page was made of is read off it
+pub page_read : (payload : List ℕ) (page : Page) (n : ℕ) → IsPage payload page → n ≡ page.len → take n page.bytes ≡ payload
+page_read payload page n is len = ap (λ (bytes : List ℕ). take n bytes) is.bytes ∙ take_at payload (replicate (4064 - length payload) 0) n (sym (len ∙ is.len))

@@ -2,7 +2,7 @@ ghost use Rattle.std.specs.Prelude.{◌≡◌, ◌+◌, ◌<◌, ◌≤◌, ◌^
 ghost use Rattle.std.specs.List.{flat_map, list_all};
 ghost use Rattle.forest_model.specs.Stored.{StoreRow};
 ghost use Rattle.forest_model.specs.declared.stored.Header.{Header};
-ghost use Rattle.header_block.specs.Layout.{header_bytes, is_well_formed, is_row, long, optional, store_bytes};
+ghost use Rattle.header_block.specs.Layout.{fields, header_bytes, is_well_formed, is_row, long, optional, store_bytes};
 
 use crate::rules::is_well_formed;
 use crate::writer::payload_of;
@@ -32,27 +32,9 @@ fn read(payload: &[u8]) -> Option<Header>
         return None;
     }
     let mut reader = Reader { rest: payload };
-    let commit = reader.long();
-    let next_commit = reader.long();
-    let previous = reader.optional();
-    let key = reader.optional();
-    let seq = reader.optional();
-    let wal_from = reader.long();
-    let live = reader.long();
-    let next_store = reader.long();
-    let count = reader.long();
+    let (header, count) = reader.fields();
     let stores = reader.stores(count)?;
-    Some(Header {
-        commit,
-        next_commit,
-        previous,
-        key,
-        seq,
-        wal_from,
-        live,
-        next_store,
-        stores,
-    })
+    Some(Header { stores, ..header })
 }
 
 // The bytes that are still to be read.
@@ -66,6 +48,8 @@ impl<'a> Reader<'a> {
         requires { count ≤ length self.old.rest.now }
         ensures front { result.now ≡ take count self.old.rest.now }
         ensures rest { self.new.rest.now ≡ drop count self.old.rest.now }
+        ensures front_len { length result.now ≡ count }
+        ensures rest_len { length self.new.rest.now + count ≡ length self.old.rest.now }
     {
         let (front, rest) = self.rest.split_at(count);
         self.rest = rest;
@@ -94,6 +78,27 @@ impl<'a> Reader<'a> {
         }
     }
 
+    // The fields of a header that has no store yet, and how many stores there are.
+    fn fields(&mut self) -> (Header, u64)
+        requires { 72 ≤ length self.old.rest.now }
+        ensures { (h : Header) (at : ℕ) (rest : List ℕ) → IsTrue (is_well_formed at h) → self.old.rest.now ≡ fields h ++ rest
+            → (result.0 ≡ record h { stores = [] }) × (result.1 ≡ length h.stores) × (self.new.rest.now ≡ rest) }
+    {
+        let header = Header {
+            commit: self.long(),
+            next_commit: self.long(),
+            previous: self.optional(),
+            key: self.optional(),
+            seq: self.optional(),
+            wal_from: self.long(),
+            live: self.long(),
+            next_store: self.long(),
+            stores: Stores::new(),
+        };
+        let count = self.long();
+        (header, count)
+    }
+
     // This many stores, if nothing else is left.
     fn stores(&mut self, count: u64) -> Option<Stores>
         ensures { (next : ℕ) (rows : List StoreRow) → next < 2 ^ 62 → length rows ≡ count → length rows ≤ 64 → IsTrue (list_all (is_row next) rows) → self.old.rest.now ≡ flat_map store_bytes rows → result ≡ Some rows }
@@ -103,25 +108,25 @@ impl<'a> Reader<'a> {
         }
         let mut stores = Stores::new();
         for _ in 0..count {
-            let (id, name, seq, documents) = self.store()?;
+            let (id, name, seq, documents) = self.store();
             stores.push(id, name, seq, documents);
         }
         Some(stores)
     }
 
-    // A store; None where its name is too long for one.
-    fn store(&mut self) -> Option<(u64, &'a [u8], u64, u64)>
+    // A store. A name that is too long for one is cut.
+    fn store(&mut self) -> (u64, &'a [u8], u64, u64)
         requires { 56 ≤ length self.old.rest.now }
         ensures len { length self.new.rest.now + 56 ≡ length self.old.rest.now }
-        ensures name { IfSome result (λ row. length row.1.now ≤ 31) }
+        ensures name { length result.1.now ≤ 31 }
         ensures back { (next : ℕ) (s : StoreRow) (rest : List ℕ) → next < 2 ^ 62 → IsTrue (is_row next s) → self.old.rest.now ≡ store_bytes s ++ rest
-            → MatchOption result ⊥ (λ row. record { id = row.0; name = row.1.now; seq = row.2; documents = row.3 } ≡ s) × (self.new.rest.now ≡ rest) }
+            → (record { id = result.0; name = result.1.now; seq = result.2; documents = result.3 } ≡ s) × (self.new.rest.now ≡ rest) }
     {
         let id = self.long();
         let len = self.bytes(1)[0];
-        let name = self.bytes(31);
+        let field = self.bytes(31);
         let seq = self.long();
         let documents = self.long();
-        Some((id, name.get(..usize::from(len))?, seq, documents))
+        (id, &field[..usize::from(len).min(31)], seq, documents)
     }
 }

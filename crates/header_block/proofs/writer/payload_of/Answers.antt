@@ -3,9 +3,9 @@ use Rattle.std.specs.List.{flat_map}
 use Rattle.std.proofs.lemmas.List.{append-nil, take_all}
 use Rattle.node_page.specs.Pages.{IsPage}
 use Rattle.forest_model.specs.Stored.{StoreRow}
-use Rattle.header_block.specs.Layout.{long, optional, store_bytes}
+use Rattle.header_block.specs.Layout.{fields, long, optional, store_bytes}
 use Rattle.header_block.proofs.Places.{at_place}
-use Rattle.header_block.proofs.Written.{fields, one_more}
+use Rattle.header_block.proofs.Written.{one_more}
 use Rattle.header_block.proofs.writer.payload_of.Goals as goal
 
 pub loop-n-init : goal.loop-n-init

@@ -1,8 +1,7 @@
 use Rattle.std.proofs.Common.{◌≡◌, ◌+◌, ◌*◌, ◌++◌, take}
 use Rattle.std.specs.List.{flat_map}
 use Rattle.node_page.specs.Pages.{IsPage}
-use Rattle.header_block.specs.Layout.{store_bytes}
-use Rattle.header_block.proofs.Written.{fields}
+use Rattle.header_block.specs.Layout.{fields, store_bytes}
 use Rattle.header_block.proofs.writer.payload_of.Given as goal
 
 abbrev pub invariant-loop-n : goal.invariant-loop-n
