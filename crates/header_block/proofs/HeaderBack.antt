@@ -1,12 +1,12 @@
 -- What is read of a header that was written.
-use Rattle.std.proofs.Common.{◌≡◌, ◌<◌, ◌≤◌, ◌+◌, ◌^◌, ℕ, suc, true, List, [], ◌++◌, length, Option, Some, None, IfSome, refl, sym, ◌∙◌, ap, arith, append_assoc, length-append}
+use Rattle.std.proofs.Common.{◌≡◌, ◌<◌, ◌≤◌, ◌+◌, ◌^◌, ℕ, suc, true, List, [], ◌++◌, length, Option, Some, None, IfSome, refl, ◌∙◌, arith, append_assoc, length-append}
 use Rattle.std.specs.Bool.{IsTrue}
-use Rattle.std.specs.List.{list_all, flat_map}
+use Rattle.std.specs.List.{list_all}
 use Rattle.std.specs.Option.{option_map_or}
 use Rattle.std.proofs.lemmas.Bool.{and_parts, ltb-true, leb-true}
 use Rattle.forest_model.specs.Stored.{StoreRow}
 use Rattle.forest_model.specs.declared.stored.Header.{Header}
-use Rattle.header_block.specs.Layout.{NamesBlocks, is_below, is_row, is_table, is_well_formed, long, optional, fields, store_bytes, header_bytes}
+use Rattle.header_block.specs.Layout.{NamesBlocks, is_below, is_row, is_well_formed, long, optional, fields}
 use Rattle.header_block.proofs.ReadBack.{ReadsBack, length-long}
 
 -- the numbers of a header fit, and so do its stores

@@ -10,3 +10,6 @@ mod writer;
 
 pub use reader::header_of;
 pub use writer::payload_of;
+
+#[cfg(test)]
+mod tests;

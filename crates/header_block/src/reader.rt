@@ -10,7 +10,8 @@ use forest_model::{Header, Stores};
 
 /// The header of a payload that stands in block `at`; None exactly where there is no well-formed one.
 pub fn header_of(payload: &[u8], at: u64) -> Option<Header>
-    ensures { MatchOption result ((h : Header) → payload.now ≡ header_bytes h → IsTrue (is_well_formed at h) → ⊥) (λ h. (payload.now ≡ header_bytes h) × IsTrue (is_well_formed at h)) }
+    ensures cases { MatchOption result ((h : Header) → payload.now ≡ header_bytes h → IsTrue (is_well_formed at h) → ⊥) (λ h. (payload.now ≡ header_bytes h) × IsTrue (is_well_formed at h)) }
+    ensures only { (h : Header) → payload.now ≡ header_bytes h → IsTrue (is_well_formed at h) → result ≡ Some h }
 {
     let header = read(payload)?;
     if !is_well_formed(&header, at) {

@@ -7,6 +7,7 @@ use forest_model::{Header, Stores};
 
 // No block of a header has this number, and no number of it is this one.
 const BLOCKS: u64 = 1 << 41;
+
 const NUMBERS: u64 = 1 << 62;
 
 /// Whether the header at this block is well-formed by itself.
@@ -39,10 +40,7 @@ fn is_below(at: u64, block: Option<u64>) -> bool
 fn is_table(next: u64, stores: &Stores) -> bool
     ensures { result ≡ is_table next stores.now }
 {
-    stores.len() <= 64
-        && begins_with_default(stores)
-        && are_rows(next, stores)
-        && are_apart(stores)
+    stores.len() <= 64 && begins_with_default(stores) && are_rows(next, stores) && are_apart(stores)
 }
 
 // Whether the first store has id 0 and is `default`.

@@ -1,4 +1,4 @@
-use Rattle.std.proofs.Common.{◌≡◌, ◌*◌, length, ap, ◌∙◌, sym, arith}
+use Rattle.std.proofs.Common.{◌≡◌, ◌*◌, length, ap, ◌∙◌, arith}
 use Rattle.header_block.proofs.ReadBack.{length-stores, next_read}
 use Rattle.header_block.proofs.reader.Reader.stores.Goals as goal
 use Rattle.header_block.proofs.reader.Reader.stores.Goals.{then-count-gt64-via-then-count-gt64, then-count-gt64-via-else-count-gt64+then-self-count}
