@@ -1,4 +1,5 @@
 pub mod Records
 pub mod OpenBlock
+pub mod Bounds
 pub mod Runs
 pub mod Fold

@@ -4,6 +4,6 @@
 //! bytes that went out and those that stay are exactly the records put, one behind another.
 #![tactic(auto)]
 
+mod tail;
 
-
-
+pub use tail::Tail;

@@ -1,0 +1,170 @@
+ghost use Rattle.std.specs.Prelude.{◌≡◌, ◌≢◌, ◌+◌, ◌*◌, ◌/◌, ◌^◌, ◌<◌, ◌≤◌, ℕ, List, [], ◌++◌, length, IsTrue, IfOk, OnOk, OnErr, MatchOption, vec_len, vec_capacity};
+ghost use Rattle.block_host.specs.Sealed.{IsSealed};
+ghost use Rattle.doc_stream.specs.OpenBlock.{PutsBytes, address_of};
+ghost use Rattle.doc_stream.specs.Records.{is_record, head_bytes, record_bytes};
+
+use block_host::{Block, seal};
+use forest_model::{Rec, Refusal};
+use std::alloc::Global;
+use std::marker::Model;
+
+/// The open block of a file's records: its number in the file, and the bytes of records that it has so far.
+#[derive(Drop)]
+pub struct Tail {
+    number: u64,
+    bytes: Vec<u8>,
+}
+
+impl Model for Tail {
+    ghost use Rattle.std.specs.Prelude.{vec_len, vec_capacity};
+    ghost use Rattle.doc_stream.specs.OpenBlock.{OpenBlock};
+    ghost use Rattle.doc_stream.specs.Bounds.{IsOpen};
+
+    ghost Value = { OpenBlock };
+
+    ghost view = { λ t. record { number = t.number; bytes = t.bytes.items } };
+
+    ghost invariant = { λ t. IsOpen t.number (vec_len t.bytes) (vec_capacity t.bytes) };
+}
+
+impl Tail {
+    /// An open block of this number, with no bytes. Its memory is taken here, so that no put asks for any.
+    pub fn new(alloc: Global, next: u64) -> Result<Tail, Refusal>
+        requires { next ≤ 2 ^ 41 }
+        ensures value { IfOk result (λ tail. tail ≡ record { number = next; bytes = [] }) }
+        ensures memory { OnErr result (result ≡ Err Refusal.NoMemory) }
+    {
+        Ok(Tail {
+            number: next,
+            bytes: Vec::with_capacity(alloc, 4064)?,
+        })
+    }
+
+    /// An equal one.
+    pub fn copy(&self) -> Result<Tail, Refusal>
+        ensures value { IfOk result (λ tail. tail ≡ self.now) }
+        ensures memory { OnErr result (result ≡ Err Refusal.NoMemory) }
+    {
+        let mut bytes = Vec::with_capacity(*self.bytes.allocator(), 4064)?;
+        bytes.extend_from_slice(self.bytes.as_slice())?;
+        Ok(Tail {
+            number: self.number,
+            bytes,
+        })
+    }
+
+    /// Goes on at another block, with no bytes.
+    pub fn restart(&mut self, next: u64)
+        requires { next ≤ 2 ^ 41 }
+        ensures { self.new ≡ record { number = next; bytes = [] } }
+    {
+        self.number = next;
+        self.bytes.clear();
+    }
+
+    /// How many whole blocks go out when so many bytes of records are put.
+    pub fn needed(&self, len: u64) -> u64
+        requires { len ≤ 2 ^ 62 }
+        ensures { result ≡ (length self.now.bytes + len) / 4064 }
+    {
+        (self.bytes.len() as u64 + len) / 4064
+    }
+
+    /// The address of the next record.
+    pub fn address(&self) -> u64
+        ensures { result ≡ address_of self.now.number (length self.now.bytes) }
+    {
+        self.number * 4096 + self.bytes.len() as u64
+    }
+
+    /// Puts a record behind those before it, and answers its address. Blocks that are full by then go to `out`, sealed for
+    /// the file's revision.
+    pub fn put(&mut self, rec: &Rec, rev: u64, out: &mut Vec<Block>) -> Result<u64, Refusal>
+        requires is_record { IsTrue (is_record rec.now) }
+        requires low { self.old.number ≤ 2 ^ 41 }
+        ensures address { IfOk result (λ address. address ≡ address_of self.old.number (length self.old.bytes)) }
+        ensures put { OnOk result (PutsBytes rev (record_bytes rec.now) self.old self.new out.old.items out.new.items) }
+        ensures memory { OnErr result (result ≡ Err Refusal.NoMemory) }
+        ensures kept { OnErr result ((self.new ≡ self.old) × (out.new.items ≡ out.old.items)) }
+    {
+        let address = self.address();
+        out.reserve(self.needed(len_of(rec)) as usize)?;
+        self.put_bytes(&head_of(rec), rev, out);
+        self.put_bytes(rec.key.as_slice(), rev, out);
+        self.put_bytes(rec.meta.as_slice(), rev, out);
+        self.put_bytes(rec.body.as_slice(), rev, out);
+        Ok(address)
+    }
+
+    // Puts bytes, where `out` has memory for the blocks that fill.
+    fn put_bytes(&mut self, bytes: &[u8], rev: u64, out: &mut Vec<Block>)
+        requires low { self.old.number * 4064 + length self.old.bytes + length bytes.now < 2 ^ 42 * 4064 }
+        requires room { vec_len out.old * 4064 + length self.old.bytes + length bytes.now < (vec_capacity out.old + 1) * 4064 }
+        ensures put { PutsBytes rev bytes.now self.old self.new out.old.items out.new.items }
+        ensures not_full { length self.new.bytes < 4064 }
+        ensures capacity { vec_capacity out.new ≡ vec_capacity out.old }
+    {
+        let mut left = bytes;
+        while !left.is_empty() {
+            left = self.put_some(left, rev, out);
+        }
+    }
+
+    // Puts as many of the bytes as the open block takes, and answers the others.
+    fn put_some<'a>(&mut self, bytes: &'a [u8], rev: u64, out: &mut Vec<Block>) -> &'a [u8]
+        requires some { 1 ≤ length bytes.now }
+        requires low { self.old.number * 4064 + length self.old.bytes + length bytes.now < 2 ^ 42 * 4064 }
+        requires room { vec_len out.old * 4064 + length self.old.bytes + length bytes.now < (vec_capacity out.old + 1) * 4064 }
+        ensures put { (front : List ℕ) × (bytes.now ≡ front ++ result.now) × (1 ≤ length front) × PutsBytes rev front self.old self.new out.old.items out.new.items }
+        ensures not_full { length self.new.bytes < 4064 }
+        ensures capacity { vec_capacity out.new ≡ vec_capacity out.old }
+    {
+        let room = 4064 - self.bytes.len();
+        let (now, later) = bytes.split_at(room.min(bytes.len()));
+        // The open block has memory for them.
+        let _taken = self.bytes.extend_from_slice(now);
+        if self.bytes.len() == 4064 {
+            out.push_reserved(seal(1, rev, self.number, self.bytes.as_slice()));
+            self.number += 1;
+            self.bytes.clear();
+        }
+        later
+    }
+
+    /// The open block, sealed for the file's revision; None exactly where it has no bytes. The next one is open then.
+    pub fn pad(&mut self, rev: u64) -> Option<Block>
+        ensures { MatchOption result ((self.old.bytes ≡ []) × (self.new ≡ self.old)) (λ block. (self.old.bytes ≢ []) × IsSealed rev self.old.number 1 self.old.bytes block × (self.new ≡ record { number = self.old.number + 1; bytes = [] })) }
+    {
+        if self.bytes.is_empty() {
+            return None;
+        }
+        let block = seal(1, rev, self.number, self.bytes.as_slice());
+        self.number += 1;
+        self.bytes.clear();
+        Some(block)
+    }
+}
+
+// How many bytes a record has.
+fn len_of(rec: &Rec) -> u64
+    requires { IsTrue (is_record rec.now) }
+    ensures value { result ≡ length (record_bytes rec.now) }
+    ensures small { result ≤ 2 ^ 21 }
+{
+    24 + rec.key.len() as u64 + rec.meta.len() as u64 + rec.body.len() as u64
+}
+
+// The bytes of a record before its key.
+fn head_of(rec: &Rec) -> [u8; 24]
+    requires { IsTrue (is_record rec.now) }
+    ensures { result ≡ head_bytes rec.now }
+{
+    let mut head = [0; 24];
+    head[0] = rec.kind;
+    head[1] = rec.meta.len() as u8;
+    head[2..4].copy_from_slice(&(rec.key.len() as u16).to_be_bytes());
+    head[4..8].copy_from_slice(&(rec.body.len() as u32).to_be_bytes());
+    head[8..16].copy_from_slice(&rec.store.to_be_bytes());
+    head[16..].copy_from_slice(&rec.seq.to_be_bytes());
+    head
+}
