@@ -72,7 +72,8 @@ impl Tail {
 
     /// The address of the next record.
     pub fn address(&self) -> u64
-        ensures { result ≡ address_of self.now.number (length self.now.bytes) }
+        ensures offset { length self.now.bytes < 4064 }
+        ensures value { result ≡ address_of self.now.number (length self.now.bytes) }
     {
         self.number * 4096 + self.bytes.len() as u64
     }
@@ -98,6 +99,7 @@ impl Tail {
 
     // Puts bytes, where `out` has memory for the blocks that fill.
     fn put_bytes(&mut self, bytes: &[u8], rev: u64, out: &mut Vec<Block>)
+        requires not_full { length self.old.bytes < 4064 }
         requires low { self.old.number * 4064 + length self.old.bytes + length bytes.now < 2 ^ 42 * 4064 }
         requires room { vec_len out.old * 4064 + length self.old.bytes + length bytes.now < (vec_capacity out.old + 1) * 4064 }
         ensures put { PutsBytes rev bytes.now self.old self.new out.old.items out.new.items }
@@ -149,6 +151,7 @@ impl Tail {
 fn len_of(rec: &Rec) -> u64
     requires { IsTrue (is_record rec.now) }
     ensures value { result ≡ length (record_bytes rec.now) }
+    ensures parts { result ≡ 24 + length rec.now.key + length rec.now.meta + length rec.now.body }
     ensures small { result ≤ 2 ^ 21 }
 {
     24 + rec.key.len() as u64 + rec.meta.len() as u64 + rec.body.len() as u64
@@ -157,7 +160,8 @@ fn len_of(rec: &Rec) -> u64
 // The bytes of a record before its key.
 fn head_of(rec: &Rec) -> [u8; 24]
     requires { IsTrue (is_record rec.now) }
-    ensures { result ≡ head_bytes rec.now }
+    ensures value { result ≡ head_bytes rec.now }
+    ensures long { length result ≡ 24 }
 {
     let mut head = [0; 24];
     head[0] = rec.kind;
