@@ -1,5 +1,5 @@
 -- Bytes put one after another.
-use Rattle.std.proofs.Common.{◌≡◌, ℕ, suc, ◌+◌, ◌*◌, ◌/◌, ◌<◌, List, [], ◌∷◌, ◌++◌, length, refl, sym, ◌∙◌, ap, subst, arith, length-append, append_assoc, add-zero}
+use Rattle.std.proofs.Common.{◌≡◌, ℕ, ◌+◌, ◌*◌, ◌<◌, List, [], ◌∷◌, ◌++◌, length, refl, sym, ◌∙◌, ap, subst, arith, length-append, append_assoc, add-zero}
 use Rattle.std.proofs.lemmas.List.{append-nil}
 use Rattle.block_host.specs.declared.block.Block.{Block}
 use Rattle.doc_stream.specs.OpenBlock.{OpenBlock, AreFull, PutsBytes}
@@ -35,7 +35,7 @@ put_nothing revision a o not_full = record {
   full = refl;
   all = append-nil a.bytes;
   number = omega arith;
-  count = omega arith
+  count = omega arith;
 }
 
 pub put_both : (revision : ℕ) (first second : List ℕ) (a b c : OpenBlock) (o p q : List Block) → length c.bytes < 4064 → PutsBytes revision first a b o p → PutsBytes revision second b c p q → PutsBytes revision (first ++ second) a c o q
@@ -55,7 +55,7 @@ put_both revision first second a b c o p q not_full one two =
       full = full_behind revision a.number one.more two.more one.whole two.whole one.full (subst (λ (n : ℕ). AreFull revision n two.more two.whole) one.number two.full);
       all = sym (append_assoc a.bytes first second) ∙ ap (λ (l : List ℕ). l ++ second) one.all ∙ append_assoc one.whole b.bytes second ∙ ap (λ (l : List ℕ). one.whole ++ l) two.all ∙ sym (append_assoc one.whole two.whole c.bytes);
       number = omega arith;
-      count = omega arith
+      count = omega arith;
     }
 
 -- of all the bytes those at the front have been put
@@ -77,7 +77,7 @@ put_more revision all left front rest a b c o p q so_far split put not_full = re
   front = so_far.front ++ front;
   split = so_far.split ∙ ap (λ (l : List ℕ). so_far.front ++ l) split ∙ sym (append_assoc so_far.front front rest);
   put = put_both revision so_far.front front a b c o p q not_full so_far.put put;
-  not_full = not_full
+  not_full = not_full;
 }
 
 -- the four parts of a record

@@ -1,5 +1,5 @@
 -- The bytes of a record, and which records there are.
-use Rattle.std.specs.Prelude.{ℕ, ◌+◌, ◌^◌, Bool, false, ◌&&◌, ◌||◌, not, ◌==◌, List, ◌∷◌, ◌++◌, [], length, nat_lt}
+use Rattle.std.specs.Prelude.{ℕ, ◌^◌, Bool, ◌&&◌, ◌||◌, not, ◌==◌, List, ◌∷◌, ◌++◌, [], length, nat_lt}
 use Rattle.std.specs.Int.{w16, w32, w64, to_be_bytes}
 use Rattle.forest_model.specs.Limits.{is_wrong_key, is_wrong_body, is_name}
 use Rattle.forest_model.specs.declared.stored.Rec.{Rec}

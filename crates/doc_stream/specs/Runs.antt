@@ -1,5 +1,5 @@
 -- The records that stand in the blocks of a file.
-use Rattle.std.specs.Prelude.{◌≡◌, ◌≢◌, ◌⊎◌, ℕ, zero, suc, ◌+◌, ◌*◌, List, [], ◌∷◌, ◌++◌, length, filter, not, slice_get, Some, IsTrue}
+use Rattle.std.specs.Prelude.{◌≡◌, ◌≢◌, ◌⊎◌, ℕ, zero, suc, ◌+◌, List, [], ◌∷◌, ◌++◌, length, filter, not, slice_get, Some, IsTrue}
 use Rattle.block_host.specs.Sealed.{IsSealed}
 use Rattle.block_host.specs.declared.block.Block.{Block}
 use Rattle.forest_model.specs.declared.stored.Rec.{Rec}
@@ -18,7 +18,7 @@ RecordBlocks revision file at zero pieces = pieces ≡ []
 RecordBlocks revision file at (suc more) pieces =
     (block : Block) × (kind : ℕ) × (payload : List ℕ) × (slice_get file at ≡ Some block) × IsSealed revision at kind payload block
     × (((kind ≡ 1) × (rest : List Piece) × (pieces ≡ record { block = at; offset = 0; bytes = payload } ∷ rest) × RecordBlocks revision file (at + 1) more rest)
-       ⊎ ((kind ≢ 1) × RecordBlocks revision file (at + 1) more pieces))
+    ⊎ ((kind ≢ 1) × RecordBlocks revision file (at + 1) more pieces))
 
 -- a block follows another in the file
 abbrev pub Follows : Piece → List Piece → Type 0

@@ -172,3 +172,83 @@ fn head_of(rec: &Rec) -> [u8; 24]
     head[16..].copy_from_slice(&rec.seq.to_be_bytes());
     head
 }
+
+#[cfg(test)]
+mod tests {
+    use super::*;
+    use block_host::unseal;
+    use forest_model::Bytes;
+    use std::test::Fail;
+
+    const APPLE: [u8; 32] = [
+        0x01, 0x00, 0x00, 0x05, 0x00, 0x00, 0x00, 0x03, 0x00, 0x00, 0x00, 0x00, 0x00, 0x00, 0x00,
+        0x00, 0x00, 0x00, 0x00, 0x00, 0x00, 0x00, 0x00, 0x01, b'a', b'p', b'p', b'l', b'e', b'r',
+        b'e', b'd',
+    ];
+
+    // A record that sets the key `apple` to a body.
+    fn apple(alloc: Global, body: Vec<u8>) -> Result<Rec, Fail>
+        requires { length body.items ≤ 1048576 }
+        ensures { IfOk result (λ rec. IsTrue (is_record rec)) }
+    {
+        Ok(Rec {
+            kind: 1,
+            store: 0,
+            seq: 1,
+            key: Bytes::copy_of(alloc, b"apple")?,
+            meta: Bytes::new(alloc),
+            body: Bytes::from_vec(body),
+        })
+    }
+
+    #[test]
+    fn a_record_as_the_format_says(rt: HostRuntime) -> Result<(), Fail> {
+        let alloc = rt.alloc();
+        let rec = apple(alloc, Vec::from_slice(alloc, b"red")?)?;
+        let mut out = Vec::new(alloc);
+        let mut tail = Tail::new(alloc, 7)?;
+        assert_eq!(rt; tail.put(&rec, 3, &mut out), Ok(7 * 4096));
+        assert_eq!(rt; tail.address(), 7 * 4096 + 32);
+        assert_eq!(rt; tail.needed(4031), 0);
+        assert_eq!(rt; tail.needed(4032), 1);
+        let mut copy = tail.copy()?;
+        assert!(rt; tail.pad(3) == Some(seal(1, 3, 7, &APPLE)));
+        assert!(rt; tail.pad(3) == None);
+        assert_eq!(rt; tail.address(), 8 * 4096);
+        assert!(rt; copy.pad(3) == Some(seal(1, 3, 7, &APPLE)));
+        copy.restart(20);
+        assert_eq!(rt; copy.address(), 20 * 4096);
+        assert!(rt; out.is_empty());
+        Ok(())
+    }
+
+    #[test]
+    fn a_record_over_several_blocks(rt: HostRuntime) -> Result<(), Fail> {
+        let alloc = rt.alloc();
+        let rec = apple(alloc, vec![in alloc; b'x'; 9000]?)?;
+        let mut out = Vec::new(alloc);
+        let mut tail = Tail::new(alloc, 7)?;
+        assert_eq!(rt; tail.needed(9029), 2);
+        assert_eq!(rt; tail.put(&rec, 3, &mut out), Ok(7 * 4096));
+        assert_eq!(rt; out.len(), 2);
+        assert_eq!(rt;
+            unseal(&out[1], 3, 8).map(|found| found.1.len()),
+            Some(4064)
+        );
+        assert_eq!(rt; tail.address(), 9 * 4096 + 901);
+        Ok(())
+    }
+
+    #[test]
+    fn a_record_to_the_end_of_a_block(rt: HostRuntime) -> Result<(), Fail> {
+        let alloc = rt.alloc();
+        let rec = apple(alloc, vec![in alloc; b'x'; 4035]?)?;
+        let mut out = Vec::new(alloc);
+        let mut tail = Tail::new(alloc, 7)?;
+        assert_eq!(rt; tail.put(&rec, 3, &mut out), Ok(7 * 4096));
+        assert_eq!(rt; out.len(), 1);
+        assert_eq!(rt; tail.address(), 8 * 4096);
+        assert!(rt; tail.pad(3) == None);
+        Ok(())
+    }
+}

@@ -17,5 +17,5 @@ loop-left-preserved c =
     let put = c.put_some-left.ensures.put in
     record {
       so_far = put_more c.args.rev c.args.bytes.now c.loop-left.left.now put.0 c.put_some-left.result.now c.args.self.now c.loop-left.self c.put_some-left.new.self c.args.out.now.items c.loop-left.out.items c.put_some-left.new.out.items c.loop-left.invariant.so_far put.1 put.3 c.put_some-left.ensures.not_full;
-      capacity = search rules
+      capacity = search rules;
     }
