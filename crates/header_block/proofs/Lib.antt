@@ -1,2 +1,4 @@
+mod HeaderBack
 mod Places
+mod ReadBack
 mod Written

@@ -4,6 +4,12 @@
 //! It takes no memory.
 #![tactic(auto)]
 
+mod reader;
+mod rules;
 mod writer;
 
+pub use reader::header_of;
 pub use writer::payload_of;
+
+#[cfg(test)]
+mod tests;

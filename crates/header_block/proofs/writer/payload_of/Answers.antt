@@ -1,4 +1,4 @@
-use Rattle.std.proofs.Common.{◌<◌, ◌++◌, ℕ, List, [], length, take, sym, ◌∙◌, ap, arith, subst}
+use Rattle.std.proofs.Common.{◌<◌, ◌++◌, ℕ, List, [], length, take, sym, arith, subst}
 use Rattle.std.specs.List.{flat_map}
 use Rattle.std.proofs.lemmas.List.{append-nil, take_all}
 use Rattle.node_page.specs.Pages.{IsPage}

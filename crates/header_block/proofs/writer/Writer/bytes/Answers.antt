@@ -1,4 +1,4 @@
-use Rattle.std.proofs.Common.{length, ◌∙◌, arith, length-append}
+use Rattle.std.proofs.Common.{◌∙◌, arith, length-append}
 use Rattle.header_block.proofs.Written.{put_page}
 use Rattle.header_block.proofs.writer.Writer.bytes.Goals as goal
 
