@@ -1,5 +1,5 @@
 -- The commit that a header stands for: by the blocks below it alone, and so far without trees.
-use Rattle.std.specs.Prelude.{◌≡◌, ◌⊎◌, ℕ, ◌+◌, ◌-◌, ◌<◌, ◌≤◌, Bool, true, ◌==◌, ◌&&◌, ◌||◌, List, [], ◌∷◌, map, filter, sum_by, Option, Some, None, MatchOption, slice_get, IsTrue}
+use Rattle.std.specs.Prelude.{◌≡◌, ℕ, ◌-◌, ◌<◌, Bool, ◌==◌, ◌&&◌, ◌||◌, List, [], ◌∷◌, map, filter, sum_by, Some, None, slice_get, IsTrue}
 use Rattle.std.specs.List.{AllByRecursion}
 use Rattle.std.specs.FinMap as finite
 use Rattle.block_host.specs.Sealed.{IsSealed}

@@ -1,5 +1,5 @@
 -- The files of a new store.
-use Rattle.std.specs.Prelude.{◌≡◌, ℕ, List, [], ◌∷◌, codes, None}
+use Rattle.std.specs.Prelude.{◌≡◌, ℕ, [], ◌∷◌, codes, None}
 use Rattle.block_host.specs.Disk.{Image}
 use Rattle.block_host.specs.Sealed.{IsSealed, zero_block}
 use Rattle.block_host.specs.declared.block.Block.{Block}

@@ -1,5 +1,5 @@
 -- What an image of the disk stands for: its retained commits, and the numbers of the last header and of the slot that counts.
-use Rattle.std.specs.Prelude.{◌≡◌, ℕ, ◌<◌, ◌≤◌, List, [], ◌∷◌, Option, Some, MatchOption, slice_get}
+use Rattle.std.specs.Prelude.{◌≡◌, ℕ, ◌<◌, ◌≤◌, List, [], ◌∷◌, Some, MatchOption, slice_get}
 use Rattle.block_host.specs.Calls.{block_at}
 use Rattle.block_host.specs.Disk.{Image}
 use Rattle.block_host.specs.Sealed.{IsSealed}
@@ -21,7 +21,7 @@ Chain revision file at h [] = ⊥
 Chain revision file at h (c ∷ older) =
     IsHeaderAt revision file at h × IsCommitOf revision file at h c
     × MatchOption h.previous (older ≡ [])
-      (λ before. (g : Header) × (g.commit < h.commit) × (g.next_store ≤ h.next_store) × Chain revision file before g older)
+    (λ before. (g : Header) × (g.commit < h.commit) × (g.next_store ≤ h.next_store) × Chain revision file before g older)
 
 pub record Stands (image : Image) (d : Durable) : Type 0 where
   -- the slot that counts names the current file
