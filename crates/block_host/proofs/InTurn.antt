@@ -1,12 +1,12 @@
 -- Records and then their header, at each moment.
-use Rattle.std.proofs.Common.{zero, suc, ◌≡◌, ◌≢◌, ◌⊎◌, ◌+◌, ◌-◌, ◌<◌, ◌≤◌, max, ℕ, List, [], ◌∷◌, ◌++◌, length, take, refl, sym, ◌∙◌, ap, subst, inl, inr, ⊎_elim, arith, length-append}
+use Rattle.std.proofs.Common.{zero, suc, ◌≡◌, ◌+◌, ◌-◌, ◌<◌, ◌≤◌, ℕ, List, [], ◌∷◌, ◌++◌, length, take, refl, sym, ◌∙◌, ap, subst, inl, inr, arith, length-append}
 use Rattle.std.specs.Prelude.{Some, None, Option, slice_get}
 use Rattle.std.proofs.lemmas.List.{take_at, take_all}
-use Rattle.std.proofs.lemmas.Option.{slice_get_past, slice_get_within}
+use Rattle.std.proofs.lemmas.Option.{slice_get_within}
 use Rattle.std.specs.Prelude.{Result}
 use Rattle.block_host.specs.declared.failed.Failed.{Failed}
 use Rattle.block_host.specs.declared.block.Block.{Block}
-use Rattle.block_host.specs.Disk.{Disk, Image, Lawful, Elapses}
+use Rattle.block_host.specs.Disk.{Disk, Image, Lawful}
 use Rattle.block_host.specs.Sealed.{IsTorn}
 use Rattle.block_host.specs.Calls.{Written, Changes, Syncs}
 use Rattle.block_host.specs.Moments.{LeavesOnly}

@@ -1,5 +1,7 @@
 ghost use Rattle.std.specs.Prelude.{◌≡◌, ◌+◌, ◌-◌, ◌^◌, ◌<◌, ◌≤◌, min, ℕ, Bool, true, false, IsTrue, List, [], ◌++◌, length, take, drop, IfOk, OnErr};
+ghost use Rattle.std.specs.Io.KnownBytes.{ReadConsumes};
 ghost use Rattle.block_host.specs.Disk.{risen};
+ghost use Rattle.block_host.specs.Reader.{left_to_read};
 
 use crate::Failed;
 use std::io::Read;
@@ -36,7 +38,8 @@ pub struct StdSource<R: Read + Drop> {
 impl<R: Read + Drop> StdSource<R> {
     /// A source of this reader, with a count of 0.
     pub fn new(reader: R) -> StdSource<R>
-        ensures { ⟦<StdSource<R> as Source>⟧.faults result ≡ 0 }
+        ensures count { ⟦<StdSource<R> as Source>⟧.faults result ≡ 0 }
+        ensures left { left_to_read R.remaining result ≡ R.remaining reader }
     {
         StdSource { reader, faults: 0 }
     }
@@ -56,7 +59,13 @@ impl<R: Read + Drop> Source for StdSource<R> {
 
     ghost faults = { λ source. source.faults };
 
-    fn read(&mut self, room: &mut [u8]) -> Result<usize, Failed> {
+    // Where std knows the bytes of the reader, it gives these, and none only at their end.
+    fn read(&mut self, room: &mut [u8]) -> Result<usize, Failed>
+        ensures reads { ReadConsumes (left_to_read R.remaining self.old) (left_to_read R.remaining self.new) result room.new }
+        ensures count { IfOk result (λ n. n ≤ length room.old) }
+        ensures counts { ⟦<StdSource<R> as Source>⟧.faults self.old ≤ ⟦<StdSource<R> as Source>⟧.faults self.new }
+        ensures failed { OnErr result (risen (⟦<StdSource<R> as Source>⟧.faults self.old) ≤ ⟦<StdSource<R> as Source>⟧.faults self.new) }
+    {
         match self.reader.read(room) {
             Ok(n) => Ok(n),
             Err(_) => {

@@ -6,7 +6,5 @@
 #![tactic(auto)]
 
 mod oracle;
-#[cfg(test)]
-mod worked_rows;
 
 pub use oracle::Oracle;

@@ -1,4 +1,4 @@
-use Rattle.std.proofs.Common.{refl, inl, ap, ◌∙◌, List}
+use Rattle.std.proofs.Common.{refl, inl, ap, ◌∙◌}
 use Rattle.block_host.specs.Disk.{Image}
 use Rattle.block_host.proofs.InTurn.{Stands, records_left, after_records, header_left, after_header, after_sync}
 use Rattle.block_host.proofs.order.append_in_order.Goals as goal

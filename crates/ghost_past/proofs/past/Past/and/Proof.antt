@@ -30,6 +30,7 @@ use denote.Triple.Spec.{Meets, triple_of}
 use denote.Triple.Table.{entered}
 use denote.Triple.Walked.{says, Stays, stay_dropped, walk_of, ends_at, walk_Meets, Goes-dropped}
 use Rattle.std.specs.contracts.marker.PhantomData as Mark
+use Rattle.ghost_past.proofs.Notes.{noted}
 use Rattle.ghost_past.proofs.Walks.{none, one, one_made}
 use Rattle.ghost_past.specs.contracts.past.Past as Past
 use Rattle.ghost_past.specs.contracts.past.Past.and as F
@@ -74,7 +75,7 @@ module _ (T : RattleType) where
           let a = z.0.3 in
           let vss = z.0.4 in
           let made : (Past.the_row (param 0 T)).Denot =
-          record { of = record {}; items = a.1.0.now ∷ a.0.now.items } in
+          record { of = record {}; items = noted a.1.0.now a.0.now.items } in
           qed 𝓛 ((raw toks ⊛ ‵ (owns (types_at ended.signature.params z.0.0) a vss)) ∷ raw ((held z.0.0 a).requires z.1) ∷ []) ∵
           keep ! (0 ∷ []) $ split ! $ move ! (1 ∷ []) $
           fsplit ! $ fsplit ! $ feq_l ! (λ is₀. drop ! $ fsplit ! $ fsplit ! $ feq_l ! (λ is₁. drop ! $ drop ! $

@@ -1,8 +1,8 @@
-use crate::oracle::Oracle;
 use forest_model::{
     Bytes, Commit, Doc, DocKey, Documents, Found, Refusal, Row, Said, Sequence, State, Store,
     StoreList, Verb,
 };
+use forest_oracle::Oracle;
 use std::alloc::{AllocError, Global};
 use std::collections::BTreeMap;
 

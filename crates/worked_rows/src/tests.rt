@@ -5,8 +5,8 @@ mod snapshot;
 mod tables;
 mod writer;
 
-use crate::oracle::Oracle;
 use forest_model::{Bytes, Sequence, Store};
+use forest_oracle::Oracle;
 use session::Session;
 use std::alloc::Global;
 use std::test::*;

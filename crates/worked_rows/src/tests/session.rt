@@ -1,6 +1,6 @@
 use super::snapshot::{Snapshot, not_shown};
-use crate::oracle::Oracle;
 use forest_model::{Call, Line, Refusal, Reply, Said, StoreRef, Told, Verb};
+use forest_oracle::Oracle;
 use std::alloc::{AllocError, Global};
 use std::test::Fail;
 
