@@ -5,16 +5,10 @@ ghost use Rattle.header_block.specs.Layout.{is_well_formed, is_below, is_table, 
 
 use forest_model::{Header, Stores};
 
-<<<<<<< HEAD
 // The block of a header is below this.
 const BLOCKS: u64 = 1 << 41;
 
 // Each number of a header is below this.
-=======
-// No block of a header has this number, and no number of it is this one.
-const BLOCKS: u64 = 1 << 41;
-
->>>>>>> h6
 const NUMBERS: u64 = 1 << 62;
 
 /// Whether the header at this block is well-formed by itself.
