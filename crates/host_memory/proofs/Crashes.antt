@@ -1,6 +1,6 @@
 -- The image that a crash leaves by a pick is one that it may leave.
-use Rattle.std.proofs.Common.{zero, suc, ◌≡◌, ◌≢◌, ◌⊎◌, ◌+◌, ◌-◌, ◌<◌, ◌≤◌, max, min, ℕ, List, [], ◌∷◌, ◌++◌, length, drop, replicate, refl, sym, ◌∙◌, ap, subst, inl, inr, arith, length-append, length-drop}
-use Rattle.std.specs.Prelude.{Some, None, Option, slice_get}
+use Rattle.std.proofs.Common.{zero, suc, ◌≡◌, ◌≢◌, ◌⊎◌, ◌+◌, ◌-◌, ◌<◌, ℕ, List, [], ◌∷◌, ◌++◌, length, drop, replicate, refl, subst, inl, inr, arith, length-append, length-drop}
+use Rattle.std.specs.Prelude.{Some, slice_get}
 use Rattle.std.proofs.lemmas.List.{length-replicate}
 use Rattle.block_host.specs.declared.block.Block.{Block}
 use Rattle.block_host.specs.Sealed.{zero_block, IsTorn}

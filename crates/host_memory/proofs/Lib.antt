@@ -1,5 +1,6 @@
 mod Picks
 mod Least
 mod Steps
+mod Grouped
 mod Told
 mod Crashes

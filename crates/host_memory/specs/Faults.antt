@@ -1,5 +1,5 @@
 -- Which calls of an object fail.
-use Rattle.std.specs.Prelude.{◌+◌, ◌-◌, ◌^◌, ◌==◌, ◌||◌, Bool, nat_lt, Vec, ℕ, List, [], Option, Some, None}
+use Rattle.std.specs.Prelude.{◌-◌, ◌^◌, ◌==◌, ◌||◌, Bool, nat_lt, Vec, ℕ, List, [], Option, Some, None}
 use Rattle.std.specs.List.{list_any}
 use Rattle.std.specs.Arc.{arc_value}
 use Rattle.std.specs.declared.alloc.Global.{Global}

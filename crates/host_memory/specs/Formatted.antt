@@ -1,7 +1,6 @@
 -- The bytes of a new store: the meta file's first slot, and the header of commit 0.
 use Rattle.std.specs.Prelude.{ℕ, List, [], ◌∷◌, ◌++◌, codes}
 use Rattle.std.specs.Int.{w64, to_be_bytes}
-use Rattle.block_host.specs.Sealed.{padded}
 
 abbrev pub long : ℕ → List ℕ
 long n = to_be_bytes w64 n

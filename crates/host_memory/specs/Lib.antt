@@ -1,4 +1,5 @@
 pub mod Faults
+pub mod Grouped
 pub mod Held
 pub mod Kept
 pub mod Memory

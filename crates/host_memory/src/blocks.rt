@@ -1,28 +1,38 @@
-ghost use Rattle.std.specs.Prelude.{◌≡◌, ◌-◌, ◌<◌, ◌++◌, [], ◌∷◌, length, take, replicate, slice_get, slice_set, option_copied, IfOk, OnOk, OnErr};
+ghost use Rattle.std.specs.Prelude.{◌≡◌, ◌+◌, ◌-◌, ◌^◌, ◌<◌, ◌++◌, [], ◌∷◌, length, take, replicate, slice_get, slice_set, option_copied, IfOk, OnOk, OnErr};
 ghost use Rattle.std.specs.Arc.{arc_value};
 ghost use Rattle.block_host.specs.Calls.{block_at, with_slot};
 
+use crate::group::Group;
+use crate::groups::Groups;
 use block_host::Block;
 use std::alloc::{AllocError, Global};
 use std::marker::Model;
 use std::mem;
 use std::sync::Arc;
 
-/// The blocks of a file, each behind an `Arc`, so that a copy of the list copies no block.
+/// The blocks of a file: groups of 256, and at the end a group that may still grow. A copy shares the whole groups and
+/// all blocks.
 #[derive(Drop)]
 pub(crate) struct Blocks {
-    blocks: Vec<Arc<Block>>,
+    alloc: Global,
+    whole: Groups,
+    last: Group,
 }
 
 impl Model for Blocks {
-    ghost use Rattle.std.specs.Prelude.{List, map};
-    ghost use Rattle.std.specs.Arc.{arc_value};
+    ghost use Rattle.std.specs.Prelude.{List, ◌++◌};
     ghost use Rattle.block_host.specs.declared.block.Block.{Block};
+    ghost use Rattle.host_memory.specs.Grouped.{joined, IsGrouped};
 
     ghost Value = { List Block };
 
-    ghost view = { λ b. map arc_value b.blocks.items };
+    ghost view = { λ b. joined b.whole ++ b.last };
+
+    ghost invariant = { λ b. IsGrouped b.whole b.last };
 }
+
+// The number of blocks of a whole group.
+const GROUP: usize = 256;
 
 impl Blocks {
     /// No block.
@@ -30,7 +40,9 @@ impl Blocks {
         ensures { result ≡ [] }
     {
         Blocks {
-            blocks: Vec::new(alloc),
+            alloc,
+            whole: Groups::new(alloc),
+            last: Group::new(alloc),
         }
     }
 
@@ -39,7 +51,7 @@ impl Blocks {
         ensures given { result ≡ self.old }
         ensures left { self.new ≡ [] }
     {
-        let alloc = *self.blocks.allocator();
+        let alloc = self.alloc;
         mem::replace(self, Blocks::new(alloc))
     }
 
@@ -47,27 +59,25 @@ impl Blocks {
     pub(crate) fn of(alloc: Global, items: &[Block]) -> Result<Blocks, AllocError>
         ensures { IfOk result (λ blocks. blocks ≡ items.now) }
     {
-        let mut blocks = Blocks::new(alloc);
-        for block in items {
-            blocks.push(block)?;
-        }
-        Ok(blocks)
+        Blocks::new(alloc).with(items)
     }
 
     /// The number of blocks.
     pub(crate) fn len(&self) -> u64
-        ensures { result ≡ length self.now }
+        ensures len { result ≡ length self.now }
+        ensures small { result < 2 ^ 49 }
     {
-        self.blocks.len() as u64
+        (self.whole.len() * GROUP + self.last.len()) as u64
     }
 
     /// The block at a place, where there is one.
     pub(crate) fn get(&self, at: u64) -> Option<&Block>
         ensures { option_copied result ≡ slice_get self.now at }
     {
-        match self.blocks.get(at as usize) {
-            Some(block) => Some(block),
-            None => None,
+        let at = at as usize;
+        match self.whole.get(at / GROUP) {
+            Some(group) => group.get(at % GROUP),
+            None => self.last.get(at - self.whole.len() * GROUP),
         }
     }
 
@@ -88,38 +98,37 @@ impl Blocks {
     {
         let mut slots = [self.at(0), self.at(1)];
         slots[slot as usize] = *block;
-        Blocks::of(*self.blocks.allocator(), &slots)
+        Blocks::of(self.alloc, &slots)
     }
 
     /// The same blocks once more.
     pub(crate) fn share(&self) -> Result<Blocks, AllocError>
         ensures { IfOk result (λ blocks. blocks ≡ self.now) }
     {
-        let mut blocks = Vec::new(*self.blocks.allocator());
-        for block in &self.blocks {
-            blocks.push(Arc::try_clone(block)?)?;
+        Ok(Blocks {
+            alloc: self.alloc,
+            whole: self.whole.share()?,
+            last: self.last.share()?,
+        })
+    }
+
+    // These blocks and one behind them.
+    fn and(self, block: Arc<Block>) -> Result<Blocks, AllocError>
+        ensures { IfOk result (λ blocks. blocks ≡ self ++ arc_value block ∷ []) }
+    {
+        let Blocks {
+            alloc,
+            whole,
+            mut last,
+        } = self;
+        if last.len() < GROUP {
+            last.push(block)?;
+            return Ok(Blocks { alloc, whole, last });
         }
-        Ok(Blocks { blocks })
-    }
-
-    /// Puts a block at the end.
-    pub(crate) fn push(&mut self, block: &Block) -> Result<(), AllocError>
-        ensures ok { OnOk result (self.new ≡ self.old ++ block.now ∷ []) }
-        ensures err { OnErr result (self.new ≡ self.old) }
-    {
-        let kept = Arc::new(*self.blocks.allocator(), *block)?;
-        self.blocks.push(kept)?;
-        Ok(())
-    }
-
-    /// Puts a block that stands elsewhere too at the end.
-    pub(crate) fn push_shared(&mut self, block: &Arc<Block>) -> Result<(), AllocError>
-        ensures ok { OnOk result (self.new ≡ self.old ++ arc_value block.now ∷ []) }
-        ensures err { OnErr result (self.new ≡ self.old) }
-    {
-        let kept = Arc::try_clone(block)?;
-        self.blocks.push(kept)?;
-        Ok(())
+        let whole = whole.and(last)?;
+        let mut last = Group::new(alloc);
+        last.push(block)?;
+        Ok(Blocks { alloc, whole, last })
     }
 
     /// These blocks and others behind them.
@@ -128,7 +137,7 @@ impl Blocks {
     {
         let mut blocks = self.share()?;
         for block in items {
-            blocks.push(block)?;
+            blocks = blocks.and(Arc::new(self.alloc, *block)?)?;
         }
         Ok(blocks)
     }
@@ -139,29 +148,76 @@ impl Blocks {
     {
         let mut blocks = self.share()?;
         for _ in self.len()..len {
-            blocks.push_shared(block)?;
+            blocks = blocks.and(Arc::try_clone(block)?)?;
         }
         Ok(blocks)
+    }
+
+    /// Puts blocks at the end of these, and one block behind others up to the same number: both or neither.
+    pub(crate) fn append(
+        &mut self,
+        items: &[Block],
+        other: &mut Blocks,
+        block: &Arc<Block>,
+    ) -> Result<(), AllocError>
+        ensures appended { OnOk result (self.new ≡ self.old ++ items.now) }
+        ensures padded { OnOk result (other.new ≡ other.old ++ replicate (length self.old + length items.now - length other.old) (arc_value block.now)) }
+        ensures err { OnErr result ((self.new ≡ self.old) × (other.new ≡ other.old)) }
+    {
+        let len = self.len() + items.len() as u64;
+        let behind = len.saturating_sub(other.len()) as usize;
+        if items.len() > GROUP - self.last.len() || behind > GROUP - other.last.len() {
+            let blocks = self.with(items)?;
+            *other = other.padded(block, len)?;
+            *self = blocks;
+            return Ok(());
+        }
+        let before = self.last.len();
+        self.last.append(items)?;
+        if other.last.repeat(block, behind).is_err() {
+            self.last.truncate(before);
+            return Err(AllocError);
+        }
+        Ok(())
     }
 
     /// The first of these blocks.
     pub(crate) fn first(&self, len: u64) -> Result<Blocks, AllocError>
         ensures { IfOk result (λ blocks. blocks ≡ take len self.now) }
     {
-        let mut blocks = self.share()?;
-        blocks.blocks.truncate(len as usize);
-        Ok(blocks)
+        let len = len as usize;
+        match self.whole.get(len / GROUP) {
+            Some(group) => Ok(Blocks {
+                alloc: self.alloc,
+                whole: self.whole.first(len / GROUP)?,
+                last: group.first(len % GROUP)?,
+            }),
+            None => Ok(Blocks {
+                alloc: self.alloc,
+                whole: self.whole.share()?,
+                last: self.last.first(len - self.whole.len() * GROUP)?,
+            }),
+        }
     }
 
     /// These blocks with another in the place of one of them.
     pub(crate) fn replaced(&self, at: u64, block: &Arc<Block>) -> Result<Blocks, AllocError>
         ensures { IfOk result (λ blocks. blocks ≡ slice_set self.now at (arc_value block.now)) }
     {
-        let mut blocks = self.share()?;
-        if at >= self.len() {
-            return Ok(blocks);
+        let at = at as usize;
+        match self.whole.get(at / GROUP) {
+            Some(group) => Ok(Blocks {
+                alloc: self.alloc,
+                whole: self
+                    .whole
+                    .replaced(at / GROUP, group.replaced(at % GROUP, block)?)?,
+                last: self.last.share()?,
+            }),
+            None => Ok(Blocks {
+                alloc: self.alloc,
+                whole: self.whole.share()?,
+                last: self.last.replaced(at - self.whole.len() * GROUP, block)?,
+            }),
         }
-        blocks.blocks[at as usize] = Arc::try_clone(block)?;
-        Ok(blocks)
     }
 }

@@ -1,4 +1,4 @@
-ghost use Rattle.std.specs.Prelude.{◌≡◌, ◌<◌, ◌++◌, [], ◌∷◌, length, take, slice_set, IfOk};
+ghost use Rattle.std.specs.Prelude.{◌≡◌, ◌<◌, ◌++◌, [], ◌∷◌, length, take, slice_set, IfOk, OnOk, OnErr};
 ghost use Rattle.block_host.specs.Sealed.{zero_block};
 ghost use Rattle.block_host.specs.Calls.{with_slot};
 ghost use Rattle.host_memory.specs.Pending.{FileState, oldest, torn_of, picked};
@@ -81,20 +81,24 @@ impl File {
         }
     }
 
-    /// The file with these blocks at its end.
-    pub(crate) fn appended(&self, blocks: &[Block]) -> Result<File, AllocError>
-        ensures { IfOk result (λ file. file ≡ record { blocks = self.now.blocks ++ blocks.now; steps = (self.now.blocks, Append (length self.now.blocks)) ∷ self.now.steps }) }
+    /// Puts blocks at the end of the file.
+    pub(crate) fn append(&mut self, blocks: &[Block]) -> Result<(), AllocError>
+        ensures ok { OnOk result (self.new ≡ record { blocks = self.old.blocks ++ blocks.now; steps = (self.old.blocks, Append (length self.old.blocks)) ∷ self.old.steps }) }
+        ensures err { OnErr result (self.new ≡ self.old) }
     {
         let at = self.blocks.len();
-        let next = self.blocks.with(blocks)?;
-        let torn = self.torn().padded(&self.zero, next.len())?;
-        let synced = self.synced().share()?;
-        Ok(File {
-            steps: self.steps.and_pair(&self.blocks, &Change::Append { at }),
-            blocks: next,
-            pending: Some(Pending { synced, torn }),
-            zero: Arc::try_clone(&self.zero)?,
-        })
+        let steps = self.steps.and_pair(&self.blocks, &Change::Append { at });
+        match &mut self.pending {
+            Some(pending) => self.blocks.append(blocks, &mut pending.torn, &self.zero)?,
+            None => {
+                let synced = self.blocks.share()?;
+                let mut torn = self.blocks.share()?;
+                self.blocks.append(blocks, &mut torn, &self.zero)?;
+                self.pending = Some(Pending { synced, torn });
+            }
+        }
+        self.steps = steps;
+        Ok(())
     }
 
     /// The meta file with a slot written.

@@ -7,6 +7,8 @@ mod faults;
 mod file;
 mod formatted;
 mod fresh;
+mod group;
+mod groups;
 mod memory_host;
 mod pick;
 mod state;

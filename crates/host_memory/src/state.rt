@@ -56,11 +56,12 @@ impl State {
         ensures ok { OnOk result (Becomes number (record { blocks = (held self.old number).blocks ++ blocks.now; steps = ((held self.old number).blocks, Append (length (held self.old number).blocks)) ∷ (held self.old number).steps }) self.old self.new) }
         ensures err { OnErr result (Stays self.old self.new) }
     {
-        let next = match self.files.get(&number) {
-            Some(file) => file.appended(blocks)?,
-            None => File::empty(alloc)?.appended(blocks)?,
-        };
-        self.store(number, next)
+        if let Some(file) = self.files.get_mut(&number) {
+            return file.append(blocks);
+        }
+        let mut file = File::empty(alloc)?;
+        file.append(blocks)?;
+        self.store(number, file)
     }
 
     /// A slot of the meta file.

@@ -31,20 +31,14 @@ fn files_hold_what_calls_leave(rt: HostRuntime) -> Result<(), Fail> {
     let mut host = two_blocks(rt.alloc())?;
     assert_eq!(rt; shape(&mut host, 1)?, (2, true));
     assert_eq!(rt; host.next_file(0)?, Some(1));
-    let mut view = host.view(1)?;
     host.cut(1, 1)?;
     host.put(1, &seal(5, 0, 1, b"slot"))?;
     assert_eq!(rt; shape(&mut host, 1)?, (1, true));
     assert_eq!(rt; shape(&mut host, 0)?, (2, true));
-    assert_eq!(rt; view.size(), 2);
-    let mut out = Block::zeros();
-    view.read(1, &mut out)?;
-    assert!(rt; out == numbered(1));
-    host.renew(1, &mut view)?;
-    assert_eq!(rt; view.size(), 1);
-    host.absorb_view(view);
     let mut fresh = host.fresh(2)?;
     fresh.append(&[numbered(0)])?;
+    assert_eq!(rt; fresh.size(), 1);
+    let mut out = Block::zeros();
     fresh.read(0, &mut out)?;
     assert!(rt; out == numbered(0));
     if let Ok(settled) = fresh.sync() {
@@ -56,24 +50,63 @@ fn files_hold_what_calls_leave(rt: HostRuntime) -> Result<(), Fail> {
     host.say(b"ab")?;
     host.say(b"c")?;
     assert_eq!(rt; host.said(), b"abc".as_slice());
-    assert_eq!(rt; Host::faults(&host), 0);
-    assert_eq!(rt; host.short(), 0);
+    assert_eq!(rt;
+        (host.faults(), Host::faults(&host), host.short()),
+        (0, 0, 0)
+    );
+    Ok(())
+}
+
+#[test]
+fn a_view_keeps_its_blocks_until_it_is_renewed(rt: HostRuntime) -> Result<(), Fail> {
+    let mut host = two_blocks(rt.alloc())?;
+    let mut view = host.view(1)?;
+    let mut out = Block::zeros();
+    for at in 2..600 {
+        host.append(1, &[numbered(at)])?;
+        assert_eq!(rt; view.size(), at);
+        view.read(at, &mut out)?;
+        assert!(rt; out == Block::zeros());
+        host.renew(1, &mut view)?;
+        view.read(at, &mut out)?;
+        assert!(rt; out == numbered(at));
+    }
+    host.cut(1, 300)?;
+    host.append(1, &[numbered(7), numbered(8)])?;
+    view.read(300, &mut out)?;
+    assert!(rt; out == numbered(300));
+    host.renew(1, &mut view)?;
+    assert_eq!(rt; view.size(), 302);
+    view.read(299, &mut out)?;
+    assert!(rt; out == numbered(299));
+    view.read(301, &mut out)?;
+    assert!(rt; out == numbered(8));
+    host.absorb_view(view);
     Ok(())
 }
 
 #[derive(Clone, Copy, Debug)]
 enum Call {
+    Size,
+    Read,
     Append,
     Put,
     Cut,
     Sync,
+    NextFile,
+    View,
+    Renew,
+    Fresh,
     Adopt,
     Remove,
+    Say,
 }
 
-// The call, on file 1 or on the meta file.
+// The call, on file 1 or on the meta file, and before it what it needs.
 fn make(host: &mut MemoryHost, call: Call) -> Result<(), Failed> {
     match call {
+        Call::Size => host.size(1).map(|_| ()),
+        Call::Read => host.read(1, 0, &mut Block::zeros()),
         Call::Append => host.append(1, &[numbered(2)]),
         Call::Put => host.put(0, &seal(5, 0, 0, b"slot")),
         Call::Cut => host.cut(1, 1),
@@ -81,6 +114,13 @@ fn make(host: &mut MemoryHost, call: Call) -> Result<(), Failed> {
             host.append(1, &[numbered(2)])?;
             host.sync(1)
         }
+        Call::NextFile => host.next_file(0).map(|_| ()),
+        Call::View => host.view(1).map(|_| ()),
+        Call::Renew => {
+            let mut view = host.view(1)?;
+            host.renew(1, &mut view)
+        }
+        Call::Fresh => host.fresh(1).map(|_| ()),
         Call::Adopt => {
             let mut fresh = host.fresh(1)?;
             fresh.append(&[numbered(0), numbered(1), numbered(2), numbered(3)])?;
@@ -89,10 +129,11 @@ fn make(host: &mut MemoryHost, call: Call) -> Result<(), Failed> {
                 Err(_fresh) => Err(Failed),
             }
         }
-        Call::Remove => {
-            host.remove(1);
-            Ok(())
-        }
+        Call::Remove => match host.remove(1) {
+            true => Ok(()),
+            false => Err(Failed),
+        },
+        Call::Say => host.say(b"x"),
     }
 }
 
@@ -106,6 +147,7 @@ fn a_crash_leaves_what_is_picked(rt: HostRuntime) -> Result<(), Fail> {
         (Call::Sync, 1, [(3, true), (3, true), (3, true)]),
         (Call::Adopt, 1, [(2, true), (4, true), (4, true)]),
         (Call::Remove, 1, [(2, true), (0, false), (0, false)]),
+        (Call::Fresh, 1, [(2, true), (2, true), (2, true)]),
     ];
     for (call, file, wanted) in &rows {
         let picks = [Pick::Before, Pick::Written, Pick::Torn];
@@ -121,35 +163,71 @@ fn a_crash_leaves_what_is_picked(rt: HostRuntime) -> Result<(), Fail> {
 }
 
 #[test]
-fn listed_calls_fail(rt: HostRuntime) -> Result<(), Fail> {
+fn each_call_fails_by_its_number(rt: HostRuntime) -> Result<(), Fail> {
+    // The call, its number, and whether its failure is a fault.
+    let rows = [
+        (Call::Size, 1, 1),
+        (Call::Read, 1, 1),
+        (Call::Append, 1, 1),
+        (Call::Put, 1, 1),
+        (Call::Cut, 1, 1),
+        (Call::Sync, 2, 1),
+        (Call::NextFile, 1, 1),
+        (Call::View, 1, 1),
+        (Call::Renew, 2, 1),
+        (Call::Fresh, 1, 1),
+        (Call::Adopt, 2, 1),
+        (Call::Remove, 1, 0),
+        (Call::Say, 1, 1),
+    ];
+    for (call, number, faults) in &rows {
+        let mut host = MemoryHost::empty(rt.alloc())?;
+        host.fail_calls(&[*number], &[], &[])?;
+        assert_eq!(rt; make(&mut host, *call), Err(Failed), "{call:?}");
+        assert_eq!(rt; (host.faults(), host.short()), (*faults, 0));
+        assert_eq!(rt; make(&mut host, *call), Ok(()), "{call:?}");
+    }
+    Ok(())
+}
+
+#[test]
+fn calls_of_views_and_fresh_files_fail_by_their_numbers(rt: HostRuntime) -> Result<(), Fail> {
     let mut host = MemoryHost::empty(rt.alloc())?;
-    host.fail_calls(&[2, 5], &[1], &[2])?;
+    host.fail_calls(&[], &[1], &[2, 3, 4])?;
     host.append(1, &[numbered(0)])?;
-    assert_eq!(rt; host.append(1, &[numbered(1)]), Err(Failed));
-    assert_eq!(rt; Host::faults(&host), 1);
     let mut view = host.view(1)?;
     let mut out = Block::zeros();
     assert_eq!(rt; view.read(0, &mut out), Err(Failed));
     assert_eq!(rt; view.read(0, &mut out), Ok(()));
     host.absorb_view(view);
-    assert_eq!(rt; Host::faults(&host), 2);
+    assert_eq!(rt; host.faults(), 1);
     let mut fresh = host.fresh(2)?;
     fresh.append(&[numbered(0)])?;
     assert_eq!(rt; fresh.append(&[numbered(1)]), Err(Failed));
-    host.absorb_fresh(fresh);
-    assert_eq!(rt; Host::faults(&host), 3);
-    assert!(rt; !host.remove(1));
-    assert_eq!(rt; Host::faults(&host), 3);
-    host.stop_after(6);
-    assert_eq!(rt; host.size(1), Ok(1));
+    assert_eq!(rt; fresh.read(0, &mut out), Err(Failed));
+    match fresh.sync() {
+        Ok(settled) => host.adopt(settled)?,
+        Err(fresh) => host.absorb_fresh(fresh),
+    }
+    assert_eq!(rt; host.faults(), 2);
+    assert_eq!(rt; host.size(2), Ok(0));
+    Ok(())
+}
+
+#[test]
+fn calls_fail_after_the_last_that_is_to_be_done(rt: HostRuntime) -> Result<(), Fail> {
+    let mut host = two_blocks(rt.alloc())?;
+    host.stop_after(3);
+    assert_eq!(rt; host.size(1), Ok(2));
     assert_eq!(rt; host.size(1), Err(Failed));
     assert_eq!(rt; host.say(b"x"), Err(Failed));
     assert_eq!(rt; host.said(), b"".as_slice());
-    assert_eq!(rt; host.short(), 0);
+    assert_eq!(rt; (host.faults(), host.short()), (2, 0));
     let mut left = host.reopen(Pick::Written);
-    assert_eq!(rt; left.size(1), Ok(1));
+    assert_eq!(rt; left.size(1), Ok(2));
     left.spoil(1, 0);
     assert!(rt; left.block(1, 0) == Some(&Block::zeros()));
+    assert!(rt; left.block(1, 1) == Some(&numbered(1)));
     Ok(())
 }
 
