@@ -1,7 +1,7 @@
 ghost use Rattle.script_text.specs.Replies.{CanBeSaid};
 
 use super::*;
-use forest_model::{Bytes, Found, Refusal, Said};
+use forest_model::{Bytes, Found, Info, Numbers, Refusal, Row, Rows, Said};
 use std::alloc::Global;
 use std::test::*;
 
@@ -105,6 +105,72 @@ fn a_document_by_number(rt: HostRuntime) -> Result<(), Fail> {
 }
 
 #[test]
+fn a_document_by_number_without_meta(rt: HostRuntime) -> Result<(), Fail> {
+    let alloc = rt.alloc();
+    let found = found(alloc, b"")?;
+    assert!(rt; says(alloc, &Said::At { found }, "3 8 at 5 a%20b %FF-")?);
+    Ok(())
+}
+
+fn info(ticket: u64) -> Info {
+    Info {
+        commit: 1,
+        seq: 22,
+        documents: 3,
+        ticket,
+    }
+}
+
+#[test]
+fn info_of_a_store(rt: HostRuntime) -> Result<(), Fail> {
+    let alloc = rt.alloc();
+    let idle = Said::InfoIs { info: info(0) };
+    assert!(rt; says(alloc, &idle, "3 8 info 1 22 3 idle")?);
+    let copying = Said::InfoIs { info: info(6) };
+    assert!(rt; says(alloc, &copying, "3 8 info 1 22 3 copying 6")?);
+    Ok(())
+}
+
+#[test]
+fn marker_of_a_new_store(rt: HostRuntime) -> Result<(), Fail> {
+    let alloc = rt.alloc();
+    let numbers = Numbers::from_vec(vec![in alloc; 0]?);
+    assert!(rt; says(alloc, &Said::MarkersAre { numbers }, "3 8 markers 0")?);
+    Ok(())
+}
+
+#[test]
+fn markers(rt: HostRuntime) -> Result<(), Fail> {
+    let alloc = rt.alloc();
+    let numbers = Numbers::from_vec(vec![in alloc; 0, 4, 10]?);
+    assert!(rt; says(alloc, &Said::MarkersAre { numbers }, "3 8 markers 0 4 10")?);
+    Ok(())
+}
+
+#[test]
+fn no_rows(rt: HostRuntime) -> Result<(), Fail> {
+    let alloc = rt.alloc();
+    let rows = Rows::new(alloc);
+    assert!(rt; says(alloc, &Said::Listed { rows }, "3 8 list 0")?);
+    Ok(())
+}
+
+fn row(alloc: Global, key: &[u8], seq: u64) -> Result<Row, Fail> {
+    let key = Bytes::copy_of(alloc, key)?;
+    Ok(Row { key, seq })
+}
+
+#[test]
+fn rows(rt: HostRuntime) -> Result<(), Fail> {
+    let alloc = rt.alloc();
+    let mut rows = Rows::new(alloc);
+    rows.push(row(alloc, b"a b", 12)?)?;
+    rows.push(row(alloc, b"-", 1)?)?;
+    assert!(rt; says(alloc, &Said::Listed { rows }, "3 8 list 2 a%20b 12 %2D 1")?);
+    Ok(())
+}
+
+#[test]
 fn keys_refused(rt: HostRuntime) -> Result<(), Fail> {
     let alloc = rt.alloc();
     assert!(rt; refuses(alloc, Refusal::NotFound, "3 8 refused not-found")?);
@@ -145,5 +211,33 @@ fn compactions_refused(rt: HostRuntime) -> Result<(), Fail> {
     assert!(rt; refuses(alloc, ticket, "3 8 refused no-ticket 2 3")?);
     let left = Refusal::NotCopied { left: 12 };
     assert!(rt; refuses(alloc, left, "3 8 refused not-copied 12")?);
+    Ok(())
+}
+
+#[test]
+fn room_refused(rt: HostRuntime) -> Result<(), Fail> {
+    let alloc = rt.alloc();
+    let running = Refusal::Compacting { ticket: 1 };
+    assert!(rt; refuses(alloc, running, "3 8 refused compacting 1")?);
+    let full = Refusal::FileFull {
+        used: 14,
+        needed: 1,
+        max: 16,
+    };
+    assert!(rt; refuses(alloc, full, "3 8 refused full 14 1 16")?);
+    Ok(())
+}
+
+#[test]
+fn the_last_lane_and_place(rt: HostRuntime) -> Result<(), Fail> {
+    let text = reply_text(rt.alloc(), 15, u64::MAX, &Said::Cancelled)?;
+    assert!(rt; text.as_slice() == b"15 18446744073709551615 cancelled".as_slice());
+    Ok(())
+}
+
+#[test]
+fn the_first_lane_and_place(rt: HostRuntime) -> Result<(), Fail> {
+    let text = reply_text(rt.alloc(), 0, 0, &Said::Cancelled)?;
+    assert!(rt; text.as_slice() == b"0 0 cancelled".as_slice());
     Ok(())
 }
