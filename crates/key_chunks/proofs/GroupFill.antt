@@ -1,5 +1,5 @@
 -- What stands in the eight bytes of a chunk when they are filled in turn.
-use Rattle.std.proofs.Common.{◌≡◌, ℕ, zero, suc, ◌+◌, ◌<◌, ◌≤◌, min, List, [], ◌∷◌, ◌++◌, length, take, drop, set, replicate, refl, sym, ap, ◌∙◌, arith}
+use Rattle.std.proofs.Common.{◌≡◌, ℕ, zero, suc, ◌≤◌, min, List, [], ◌∷◌, ◌++◌, length, take, drop, set, replicate, ap, ◌∙◌, arith}
 
 -- zeros, the first of them overwritten by the key's first bytes, and the last one by a count
 pub filled : (k m count : ℕ) (key : List ℕ) → k ≤ m → set (take (min (length key) k) key ++ drop (min (length key) k) (replicate (suc k) 0)) k count ≡ take k (key ++ replicate m 0) ++ count ∷ []

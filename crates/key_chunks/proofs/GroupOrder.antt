@@ -1,11 +1,11 @@
 -- Chunk lists stand in the order of their keys.
-use Rattle.std.proofs.Common.{◌≡◌, ℕ, zero, suc, ◌+◌, ◌-◌, ◌*◌, ◌/◌, ◌<◌, ◌≤◌, List, [], ◌∷◌, ◌++◌, length, drop, nat_cmp, Ordering, Less, Equal, Greater, refl, sym, ap, ◌∙◌, arith, length-drop}
+use Rattle.std.proofs.Common.{◌≡◌, ℕ, zero, suc, ◌+◌, ◌-◌, ◌*◌, ◌/◌, ◌<◌, ◌≤◌, List, [], ◌∷◌, length, drop, nat_cmp, Ordering, Less, Equal, Greater, refl, sym, ap, ◌∙◌, arith, length-drop}
 use Rattle.std.specs.Int.{w64, from_be_bytes}
 use Rattle.std.specs.Ordering.{ordering_then}
 use Rattle.std.specs.Cmp.Lexicographic.{slice_cmp}
 use Rattle.std.proofs.lemmas.List.{drop_all}
-use Rattle.key_chunks.specs.Chunks.{first_group, count_byte, first_chunk, groups, groups_of, chunks_of, IsKey}
-use Rattle.key_chunks.proofs.Horner.{AreBytes, valued, then_equal, valued_order, number_valued}
+use Rattle.key_chunks.specs.Chunks.{first_chunk, groups, groups_of, chunks_of, IsKey}
+use Rattle.key_chunks.proofs.Horner.{AreBytes, valued, valued_order, number_valued}
 use Rattle.key_chunks.proofs.Windows.{window, length_window, small_window, group_window, windows}
 
 chunk_valued : (x : List ℕ) → first_chunk x ≡ valued 0 (window 7 0 x)

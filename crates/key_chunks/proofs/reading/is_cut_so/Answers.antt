@@ -1,4 +1,4 @@
-use Rattle.std.proofs.Common.{◌∙◌, ap, List, ℕ, sym, false, true, ◌∷◌, []}
+use Rattle.std.proofs.Common.{◌∙◌, ap, List, ℕ, sym, ◌∷◌, []}
 use Rattle.std.specs.Prelude.{nat_eq}
 use Rattle.std.specs.Cmp.Lexicographic.{pointwise}
 use Rattle.key_chunks.specs.Chunks.{groups_of}
