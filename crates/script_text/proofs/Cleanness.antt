@@ -1,5 +1,5 @@
 -- No word of a line has a space in it.
-use Rattle.std.proofs.Common.{◌≡◌, ℕ, ◌+◌, ◌<◌, ◌≤◌, ◌^◌, ◌==◌, Bool, true, false, cond, eqb, ltb, nat_le, List, [], ◌∷◌, ◌++◌, length, All, refl, sym, ap, subst, ◌∙◌, arith, lit<, ◌&&◌, not, codes}
+use Rattle.std.proofs.Common.{◌≡◌, ℕ, ◌+◌, ◌<◌, ◌≤◌, ◌^◌, ◌==◌, Bool, true, false, eqb, ltb, nat_le, List, [], ◌∷◌, ◌++◌, refl, arith, lit<, ◌&&◌, not, codes}
 use Rattle.std.specs.Fmt.{decimal}
 use Rattle.std.specs.List.{flat_map, AllByRecursion}
 use Rattle.std.proofs.lemmas.Bool.{ne_eqb, and_parts, leb-true, cond_both}
@@ -9,7 +9,7 @@ use Rattle.forest_model.specs.declared.call.Item.TheVariants as item
 use Rattle.forest_model.specs.declared.line.Verb.{Verb}
 use Rattle.forest_model.specs.declared.line.Verb.TheVariants as verb
 use Rattle.script_text.specs.Words.{is_plain, hex_digit, escape, byte_spelling, word_of}
-use Rattle.script_text.specs.Grammar.{IsNumber, IsCount, meta_words, item_words, direction, verb_words, IsRightVerb}
+use Rattle.script_text.specs.Grammar.{IsCount, meta_words, item_words, direction, verb_words, IsRightVerb}
 use Rattle.script_text.proofs.Splitting.{IsWord, IsWord-literal, IsWord-decimal}
 
 abbrev NoSpace : ℕ → Type 0

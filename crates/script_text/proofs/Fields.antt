@@ -1,12 +1,12 @@
 -- What a reader took from the front of the words, and that what was written is read again.
-use Rattle.std.proofs.Common.{◌≡◌, ℕ, ◌<◌, ◌≤◌, ◌^◌, Bool, true, false, cond, eqb, nat_eq, nat_le, List, [], ◌∷◌, ◌++◌, length, Option, Some, None, find, refl, sym, ap, subst, ◌∙◌, arith, ◌&&◌, ◌⊎◌, inl, inr, codes}
+use Rattle.std.proofs.Common.{◌≡◌, ℕ, ◌<◌, ◌≤◌, ◌^◌, Bool, true, false, cond, eqb, nat_eq, nat_le, List, [], ◌∷◌, ◌++◌, length, Some, None, find, refl, sym, ap, subst, ◌∙◌, arith, ◌&&◌, inl, inr, codes}
 use Rattle.std.specs.Cmp.Lexicographic.{pointwise}
 use Rattle.std.specs.Fmt.{decimal}
-use Rattle.std.proofs.lemmas.Bool.{and_parts, and_from, le-leb, leb-true}
+use Rattle.std.proofs.lemmas.Bool.{and_parts, le-leb, leb-true}
 use Rattle.script_text.specs.declared.keyword.Keyword.{Keyword}
 use Rattle.script_text.specs.declared.keyword.Keyword.TheVariants as keyword
 use Rattle.script_text.specs.Words.{word_of}
-use Rattle.script_text.specs.Grammar.{AreBytes, IsNumber, IsCount, meta_words, direction}
+use Rattle.script_text.specs.Grammar.{AreBytes, IsCount, meta_words, direction}
 use Rattle.script_text.specs.Reading.{◌>>=◌, word_at, none_left, end_at, keyword_name, keywords, keyword_of, keyword_at, bytes_of, text_at, number_of, number_at, count_at, lane_at, read_only_of, read_only_at, meta_at, direction_of, direction_at}
 use Rattle.script_text.proofs.Options.{bind_some, guard_some, guard_not, chosen, some_is, none_is_not_some}
 use Rattle.script_text.proofs.Spelled.{same_list}

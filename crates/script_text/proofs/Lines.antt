@@ -1,9 +1,8 @@
 -- A line is read from its text, and from no other.
-use Rattle.std.proofs.Common.{◌≡◌, ℕ, ◌≤◌, Bool, List, [], ◌∷◌, ◌++◌, Option, Some, None, refl, sym, ap, subst, ◌∙◌, arith}
+use Rattle.std.proofs.Common.{◌≡◌, ℕ, Bool, List, [], ◌∷◌, ◌++◌, Option, Some, None, refl, sym, ap, subst, ◌∙◌, arith}
 use Rattle.std.specs.Fmt.{decimal}
 use Rattle.std.proofs.lemmas.List.{append-nil}
 use Rattle.forest_model.specs.declared.line.Line.{Line}
-use Rattle.forest_model.specs.declared.line.Verb.{Verb}
 use Rattle.script_text.specs.declared.unread.Unread.{Unread}
 use Rattle.script_text.specs.declared.unread.Unread.TheVariants as unread
 use Rattle.script_text.specs.Words.{joined}

@@ -1,9 +1,8 @@
 -- What a reader of verbs took from the front of the words, and that what was written is read again.
-use Rattle.std.proofs.Common.{◌≡◌, ℕ, zero, suc, ◌+◌, ◌<◌, ◌≤◌, ◌^◌, Bool, true, false, not, cond, eqb, List, [], ◌∷◌, ◌++◌, length, Option, Some, None, IsTrue, refl, sym, ap, subst, ◌∙◌, append_assoc, arith, lit<, ◌⊎◌, inl, inr, codes}
+use Rattle.std.proofs.Common.{◌≡◌, ℕ, zero, suc, ◌<◌, ◌≤◌, ◌^◌, Bool, true, false, not, cond, eqb, List, [], ◌∷◌, ◌++◌, length, Some, None, IsTrue, refl, sym, ap, subst, ◌∙◌, append_assoc, arith, lit<, inl, inr, codes}
 use Rattle.std.specs.Fmt.{decimal}
 use Rattle.std.specs.List.{flat_map, AllByRecursion}
 use Rattle.std.proofs.lemmas.Bool.{ne_eqb}
-use Rattle.std.proofs.lemmas.List.{append-nil}
 use Rattle.forest_model.specs.declared.call.Item.{Item}
 use Rattle.forest_model.specs.declared.call.Item.TheVariants as item
 use Rattle.forest_model.specs.declared.line.Verb.{Verb}
@@ -11,9 +10,9 @@ use Rattle.forest_model.specs.declared.line.Verb.TheVariants as verb
 use Rattle.script_text.specs.declared.keyword.Keyword.{Keyword}
 use Rattle.script_text.specs.declared.keyword.Keyword.TheVariants as keyword
 use Rattle.script_text.specs.Words.{word_of}
-use Rattle.script_text.specs.Grammar.{AreBytes, IsNumber, IsCount, meta_words, item_words, direction, verb_words, IsRightItem, IsRightVerb}
+use Rattle.script_text.specs.Grammar.{AreBytes, IsCount, meta_words, item_words, direction, verb_words, IsRightItem, IsRightVerb}
 use Rattle.script_text.specs.Reading.{◌>>=◌, none_left, keyword_name, keyword_at, text_at, number_at, count_at, read_only_at, meta_at, direction_at, put_at, del_at, item_of, item_at, items_at, use_at, set_at, batch_at, scan_at, seqs_at, with_text, with_number, snap_of, snap_at, copy_at, compact_of, compact_at, verb_of, verb_at}
-use Rattle.script_text.proofs.Options.{bind_some, guard_some, guard_not, chosen, some_is, none_is_not_some, full_from}
+use Rattle.script_text.proofs.Options.{bind_some, guard_not, chosen, some_is, none_is_not_some, full_from}
 use Rattle.script_text.proofs.Fields.{none_again, some_again, keyword_takes, keyword_again, text_takes, text_again, number_takes, number_again, count_takes, count_again, ro_words, read_only_takes, read_only_again, meta_takes, meta_again, direction_takes, direction_again}
 
 -- ---- items

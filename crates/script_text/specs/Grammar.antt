@@ -1,13 +1,13 @@
 -- The lines of a script, and the one text of each.
-use Rattle.std.specs.Prelude.{◌≡◌, ℕ, ◌≤◌, ◌<◌, ◌^◌, ◌≢◌, Bool, true, false, IsTrue, not, List, [], ◌∷◌, length, if◌then◌else◌, codes}
-use Rattle.std.specs.List.{flat_map, list_all, AllByRecursion}
+use Rattle.std.specs.Prelude.{◌≡◌, ℕ, ◌≤◌, ◌<◌, ◌^◌, Bool, true, false, IsTrue, not, List, [], ◌∷◌, length, if◌then◌else◌, codes}
+use Rattle.std.specs.List.{flat_map, AllByRecursion}
 use Rattle.std.specs.Fmt.{decimal}
 use Rattle.forest_model.specs.declared.call.Item.{Item}
 use Rattle.forest_model.specs.declared.call.Item.TheVariants as item
 use Rattle.forest_model.specs.declared.line.Line.{Line}
 use Rattle.forest_model.specs.declared.line.Verb.{Verb}
 use Rattle.forest_model.specs.declared.line.Verb.TheVariants as verb
-use Rattle.script_text.specs.Words.{is_plain, word_of, joined}
+use Rattle.script_text.specs.Words.{word_of, joined}
 
 -- ---- the words of a line
 

@@ -360,6 +360,56 @@ const WRONG: &str = "\n\
     0 batch  del a\n\
     0 batch put a 1 -  del a";
 
+/// The examples of docs/LANGUAGE.md, one a row; the one for the server stands with its test.
+const EXAMPLES: &str = "0 set apple red\n\
+    0 set %2D - sweet%20fruit\n\
+    0 del apple\n\
+    0 batch put apple red - put pear green fruit del %2D\n\
+    0 get apple\n\
+    0 get pear\n\
+    0 get plum\n\
+    0 byseq 5\n\
+    0 commit\n\
+    0 markers\n\
+    0 set plum blue\n\
+    0 rollback 1\n\
+    0 info\n\
+    0 snap latest\n\
+    0 snap get pear\n\
+    0 snap byseq 5\n\
+    0 scan up - 10\n\
+    0 scan down b 10\n\
+    0 seqs up 5 10\n\
+    0 seqs down 0 1\n\
+    0 snap close\n\
+    0 snap at 6\n\
+    0 compact begin\n\
+    0 compact copy 100\n\
+    0 compact delta\n\
+    0 compact switch\n\
+    0 compact cancel\n\
+    0 use notes\n\
+    15 use notes ro\n\
+    1 remove notes";
+
+/// Whether a text of play is read as a line that is written as this text.
+fn is_kept(alloc: Global, text: &str) -> Result<bool, Fail> {
+    let found = line_of(alloc, text.as_bytes(), false)?;
+    let Some(line) = found else {
+        return Ok(false);
+    };
+    let written = text_of(alloc, &line)?;
+    Ok(written.as_slice() == text.as_bytes())
+}
+
+#[test]
+fn examples(rt: HostRuntime) -> Result<(), Fail> {
+    for text in EXAMPLES.split('\n') {
+        assert!(rt; is_kept(rt.alloc(), text)?, "{text}");
+    }
+    Ok(())
+}
+
 #[test]
 fn right_lines(rt: HostRuntime) -> Result<(), Fail> {
     for (text, lane, want) in RIGHT {

@@ -1,4 +1,4 @@
-use Rattle.std.proofs.Common.{◌≡◌, ◌∙◌, sym, subst, List, ℕ}
+use Rattle.std.proofs.Common.{◌∙◌, sym, subst, List, ℕ}
 use Rattle.std.specs.Str.Parse.{ParsesUnsigned}
 use Rattle.script_text.proofs.Decimals.{padded_is_none, not_text_is_none, parsed_is}
 use Rattle.script_text.proofs.number.number_of.Goals as goal

@@ -1,8 +1,8 @@
-use Rattle.std.proofs.Common.{◌≡◌, List, ℕ, ◌+◌, ◌-◌, ◌++◌, ◌∷◌, [], Option, Some, ap, sym, ◌∙◌, arith}
+use Rattle.std.proofs.Common.{List, ◌+◌, ◌-◌, Some, ap, sym, ◌∙◌}
 use Rattle.std.proofs.lemmas.Result.{err_from_is_err_and}
 use Rattle.forest_model.specs.declared.call.Item.{Item}
 use Rattle.script_text.specs.Reading.{items_at}
-use Rattle.script_text.proofs.Loops.{with_items, items_begin, items_go_on, items_end, items_are_done, items_are_full}
+use Rattle.script_text.proofs.Loops.{with_items, items_go_on, items_end, items_are_done, items_are_full}
 use Rattle.script_text.proofs.reader.Reader.items.Goals as goal
 
 pub returns-then-is_done : goal.returns-then-is_done
