@@ -70,6 +70,13 @@ impl Tail {
         (self.bytes.len() as u64 + len) / 4064
     }
 
+    /// The open block's number in its file.
+    pub fn number(&self) -> u64
+        ensures { result ≡ self.now.number }
+    {
+        self.number
+    }
+
     /// The address of the next record.
     pub fn address(&self) -> u64
         ensures offset { length self.now.bytes < 4064 }

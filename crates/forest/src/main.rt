@@ -7,6 +7,8 @@ ghost use Rattle.std.specs.Prelude.{◌≡◌, ◌≤◌, ◌⊎◌, IfOk};
 
 mod answers;
 mod ending;
+#[cfg(test)]
+mod tests;
 mod words;
 
 use answers::play_in_memory;
