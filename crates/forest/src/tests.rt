@@ -5,26 +5,44 @@ use std::alloc::{AllocError, Global};
 use std::process::Abort;
 use std::test::Fail;
 
-const SCRIPT: &[u8] = b"0 set apple red\n0 get apple\n0 commit\n0 commit\n0 set apple green\n0 commit\n0 get apple\n0 get pear\n0 set pear ripe\n0 get pear\n0 commit\n0 get apple\n";
+const SCRIPT: &[u8] =
+    b"0 set apple red\n0 get apple\n0 commit\n0 commit\n0 set apple green\n0 commit\n0 get apple\n0 get pear\n0 set pear ripe\n0 get pear\n0 commit\n0 get apple\n";
 
-const REPLIES: &[u8] = b"0 1 ok 1\n0 1 found 1 red\n0 2 commit 1\n0 2 commit 1\n0 3 ok 2\n0 4 commit 2\n0 4 found 2 green\n0 4 refused not-found\n0 5 ok 3\n0 5 found 3 ripe\n0 6 commit 3\n0 6 found 2 green\n";
+const REPLIES: &[u8] =
+    b"0 1 ok 1\n0 1 found 1 red\n0 2 commit 1\n0 2 commit 1\n0 3 ok 2\n0 4 commit 2\n0 4 found 2 green\n0 4 refused not-found\n0 5 ok 3\n0 5 found 3 ripe\n0 6 commit 3\n0 6 found 2 green\n";
 
 // What is wanted where the host's call of each number fails, from the first on: how many replies are said, and how many
 // blocks file 1 has. The host is asked five times for the files of a new store; then each line says its reply, and a commit
 // with something new first appends the open block, syncs, appends the header and syncs. No call of the last number is made.
 const WANTED: [(usize, u64); 30] = [
-    (0, 1), (0, 1), (0, 1), (0, 1), (0, 1),
+    (0, 1),
+    (0, 1),
+    (0, 1),
+    (0, 1),
+    (0, 1),
     (0, 1),
     (1, 1),
-    (2, 1), (2, 2), (2, 2), (2, 3), (2, 3),
+    (2, 1),
+    (2, 2),
+    (2, 2),
+    (2, 3),
+    (2, 3),
     (3, 3),
     (4, 3),
-    (5, 3), (5, 4), (5, 4), (5, 5), (5, 5),
+    (5, 3),
+    (5, 4),
+    (5, 4),
+    (5, 5),
+    (5, 5),
     (6, 5),
     (7, 5),
     (8, 5),
     (9, 5),
-    (10, 5), (10, 6), (10, 6), (10, 7), (10, 7),
+    (10, 5),
+    (10, 6),
+    (10, 6),
+    (10, 7),
+    (10, 7),
     (11, 7),
     (12, 7),
 ];
@@ -79,7 +97,11 @@ fn host_fails_at(
     let played = run(alloc, &mut source, host)?;
     let status = if replies == 12 { 0 } else { 4 };
     assert_eq!(rt; played.status, status, "at call {number}");
-    assert_eq!(rt; played.host.said(), first_lines(REPLIES, replies), "at call {number}");
+    assert_eq!(rt;
+        played.host.said(),
+        first_lines(REPLIES, replies),
+        "at call {number}"
+    );
     assert!(rt; has_blocks(&played.host, blocks), "at call {number}");
     Ok(())
 }
@@ -105,8 +127,19 @@ fn source_fails_at(rt: &impl Abort, alloc: Global, number: u64) -> Result<(), Al
     said.extend_from_slice(b"source fault\n")?;
     assert_eq!(rt; played.status, 2, "at read {number}");
     assert_eq!(rt; played.host.said(), said.as_slice(), "at read {number}");
-    let commits = if lines < 3 { 0 } else if lines < 6 { 1 } else if lines < 11 { 2 } else { 3 };
-    assert!(rt; has_blocks(&played.host, 1 + 2 * commits), "at read {number}");
+    let commits = if lines < 3 {
+        0
+    } else if lines < 6 {
+        1
+    } else if lines < 11 {
+        2
+    } else {
+        3
+    };
+    assert!(rt;
+        has_blocks(&played.host, 1 + 2 * commits),
+        "at read {number}"
+    );
     Ok(())
 }
 
@@ -137,7 +170,11 @@ fn is_block(rt: &impl Abort, host: &MemoryHost, at: u64, payload: &[u8], last: &
         assert!(rt; false, "no block {at}");
         return;
     };
-    assert_eq!(rt; block.bytes.get(..payload.len()), Some(payload), "block {at}");
+    assert_eq!(rt;
+        block.bytes.get(..payload.len()),
+        Some(payload),
+        "block {at}"
+    );
     assert_eq!(rt; block.bytes.get(4064..), Some(last), "block {at}");
     let behind = block.bytes.get(payload.len()..4064).unwrap_or_default();
     assert!(rt; behind.iter().all(|byte| *byte == 0), "block {at}");

@@ -66,7 +66,7 @@ line_goes p (Set key meta body) at at' more header room puts built =
     let put = puts.bytes in
     let whole : length put.whole ≡ length put.more * 4064 = full-length 1 at.open_block.number put.more put.whole put.full in
     let sum : length at.open_block.bytes + length (record_bytes r) ≡ length put.whole + length at'.open_block.bytes =
-        omega (arith, ap length put.all, length-append at.open_block.bytes (record_bytes r), length-append put.whole at'.open_block.bytes) in
+    omega (arith, ap length put.all, length-append at.open_block.bytes (record_bytes r), length-append put.whole at'.open_block.bytes) in
     let short : length (record_bytes r) ≤ 7024 = omega (arith, length-record r, short_set key meta body built) in
     record {
       blocks = omega (arith, put.number, put.count, short, room);

@@ -68,7 +68,7 @@ no_bad_line (t ∷ texts) [] rest bad more good plain others b is_bad e =
     is_bad good.0.0.0 (subst (IsTaken good.0.0.0) same.0 good.0.0.1)
 no_bad_line (t ∷ texts) (u ∷ others) rest bad more good plain are b is_bad e =
     let same = first_newline t u (ended texts ++ rest) (ended others ++ (bad ++ 10 ∷ more)) good.0.1 are.0
-        (sym (append_assoc t (10 ∷ ended texts) rest) ∙ e ∙ append_assoc u (10 ∷ ended others) (bad ++ 10 ∷ more)) in
+    (sym (append_assoc t (10 ∷ ended texts) rest) ∙ e ∙ append_assoc u (10 ∷ ended others) (bad ++ 10 ∷ more)) in
     no_bad_line texts others rest bad more good.1 plain are.1 b is_bad same.1
 
 last_taken : (lines : List Line) (rest : List ℕ) → rest ≢ [] → AreTaken lines (last_line rest) → (line : Line) × IsTaken line rest

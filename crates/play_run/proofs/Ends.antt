@@ -220,6 +220,7 @@ module _ (tells : Bool) (base heard now : Seen) (script left : List ℕ) (count 
   no_bad g e = by e.bad where
     are : AllByRecursion IsText e.texts
     are = taken_texts e.run.said_all.lines e.texts e.run.said_all.taken
+
     by : IsBadLine e.rest ⊎ (IsBadEnd e.rest left ⊎ IsTooLong e.taken e.rest) → ⊥
     by (inl b) =
         no_bad_line g.texts e.texts g.rest b.0 (b.1 ++ left) (good_texts g.lines g.texts _ g.taken) g.no_newline are b.2 b.3

@@ -151,7 +151,7 @@ run_more tells base heard middle heard' texts p q at at' count text bytes t r ru
     let long : length r.lines ≡ length texts = same_length r.lines texts r.taken in
     let few : length before.file < 2 ^ 31 = omega (arith, before.few, long, r.counted, small) in
     let l : LineGoes p before.hidden before.file at' goes.more line =
-        line_goes p before.hidden before.file at at' goes.more line before.stands before.written goes.puts runs.taken.built (omega (arith, r.places, small)) few in
+    line_goes p before.hidden before.file at at' goes.more line before.stands before.written goes.puts runs.taken.built (omega (arith, r.places, small)) few in
     record {
       lines = r.lines ++ line ∷ [];
       told = r.told ++ t ∷ [];
@@ -184,7 +184,7 @@ run_part tells base heard middle heard' texts p q at at' count text bytes t r ru
     let m = run_more tells base heard middle whole texts p q at at' count text bytes t r runs plain small bytes_are (λ _. refl) (λ _. refl) in
     let said : List ℕ = replies (r.told ++ t ∷ []) in
     let said_all : HasSaid r.first m.reaches.file (texts ++ text ∷ []) said =
-        record { lines = m.lines; told = m.told; taken = m.taken; after = session_at q m.reaches.hidden; run = m.reaches.run; is = refl } in
+    record { lines = m.lines; told = m.told; taken = m.taken; after = session_at q m.reaches.hidden; run = m.reaches.run; is = refl } in
     by tells r.first_is (λ told. runs.goes.1.silent told ∙ r.said_is told) part r.first m.reaches.file said said_all (replies-push r.told t ∙ ap (λ xs. replies r.told ++ xs) (sym bytes_are)) where
       by : (b : Bool) → (IsTrue b → r.first ≡ base.file) → (IsTrue b → middle.said ≡ base.said ++ replies r.told) → (IsTrue b → (n : ℕ) × (n ≤ length bytes) × (heard'.said ≡ middle.said ++ take n bytes))
           → (first last : File) (said : List ℕ) → HasSaid r.first last (texts ++ text ∷ []) said → said ≡ replies r.told ++ bytes → HasHeardPart b base heard' (texts ++ text ∷ [])

@@ -98,9 +98,11 @@ rose why a a' b c d same after closed said no_less = subst (λ n. risen n ≤ d)
   failed SourceFault f = inr f
   failed BadLine f = inr f
   failed NoMemory f = inr f
+
   kept : (risen a' ≤ b) ⊎ (b ≡ a') → risen c ≤ d → risen a' ≤ d
   kept (inl f) r = up (risen a') b c d f closed no_less
   kept (inr f) r = subst (λ n. risen n ≤ d) (closed ∙ f) r
+
   by : (why ≡ HostFault) ⊎ (risen c ≤ d) → risen a' ≤ d
   by (inl is) = up (risen a') b c d (subst (λ (w : Ended). FaultsAfter w a' b) is after) closed no_less
   by (inr r) = kept (failed why after) r

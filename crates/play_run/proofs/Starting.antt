@@ -57,6 +57,7 @@ new_store files slot header meta file is_slot is_zero is_first s h two one a b c
         meta = two_blocks (files 0) (eqb-true _ _ (sym two ∙ all.0)) ∙ (λ i. a.0 all.2 i ∷ b.0 all.3 i ∷ []);
         file = one_block (files 1) (eqb-true _ _ (sym one ∙ all.1)) ∙ (λ i. c.0 all.4 i ∷ []);
       }
+
   back : IsNewStore files → IsTrue (meta && file && is_slot && is_zero && is_first)
   back n = five meta file is_slot is_zero is_first
       (two ∙ eq-eqb _ _ (ap length n.meta)) (one ∙ eq-eqb _ _ (ap length n.file))

@@ -118,18 +118,18 @@ impl Host for Listener {
         if file == 0 && at == 0 {
             *out = first_slot();
         }
-        if file == 1 && let Some(block) = self.file.get(at as usize) {
+        if file == 1
+            && let Some(block) = self.file.get(at as usize)
+        {
             *out = *block;
         }
         Ok(())
     }
 
     fn append(&mut self, _file: u64, blocks: &[Block]) -> Result<(), Failed> {
-        for block in blocks {
-            if self.file.push(*block).is_err() {
-                self.faults = self.faults.saturating_add(1);
-                return Err(Failed);
-            }
+        if self.file.extend_from_slice(blocks).is_err() {
+            self.faults = self.faults.saturating_add(1);
+            return Err(Failed);
         }
         Ok(())
     }

@@ -189,11 +189,7 @@ fn append<H: Host>(host: &mut H, blocks: &[Block]) -> Result<(), Failed>
 }
 
 // Puts the open block, if there is one, at the end of the file and, once all before is on the disk, the header behind it.
-fn append_commit<H: Host>(
-    host: &mut H,
-    block: Option<Block>,
-    header: &Block,
-) -> Result<(), Failed>
+fn append_commit<H: Host>(host: &mut H, block: Option<Block>, header: &Block) -> Result<(), Failed>
     ensures done { IsTrue H.tells → OnOk result ((H.disk host.new).files 1 ≡ (H.disk host.old).files 1 ++ listed block ++ header.now ∷ []) }
     ensures silent { IsTrue H.tells → (H.disk host.new).said ≡ (H.disk host.old).said }
     ensures failed { OnErr result (risen (H.faults host.old) ≤ H.faults host.new) }

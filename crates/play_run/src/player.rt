@@ -43,11 +43,7 @@ pub(crate) struct Player<H: Host> {
 }
 
 /// Runs the line of a text, and gives what is told for it.
-fn told_for<H: Host>(
-    alloc: Global,
-    file: &mut PlainFile<H>,
-    text: &[u8],
-) -> Result<Told, Ended>
+fn told_for<H: Host>(alloc: Global, file: &mut PlainFile<H>, text: &[u8]) -> Result<Told, Ended>
     requires counted { (count : ℕ) × (count < 2 ^ 27) × IsCounted file.old.store file.old.ledger count }
     ensures runs { IfOk result (RunsText H.tells text.now file.old.store file.new.store file.old.ledger file.new.ledger (seen (H.disk file.old.host)) (seen (H.disk file.new.host))) }
     ensures spelled { IfOk result (λ t. CanBeSaid t.said) }

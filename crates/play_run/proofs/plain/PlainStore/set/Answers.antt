@@ -19,7 +19,7 @@ pub returns-clause-ok : goal.returns-clause-ok
 returns-clause-ok c =
     let sum = live-set c.args.self.now.documents (key_at 0 c.args.key) (doc_of (c.args.self.now.seq + 1) c.args.meta c.args.body) in
     let live : c.args.self.now.live + c.record_length-added.result - c.replaced_length.result ≡ live_bytes (documents_with c.args.self.now c.args.key c.args.meta c.args.body) =
-        omega (arith, sum, ap (replaced c.args.key) c.in_ok-before.ensures.before, c.requires.within.live, c.replaced_length.ensures c.args.key c.len-key_len.ensures, c.record_length-added.ensures) in
+    omega (arith, sum, ap (replaced c.args.key) c.in_ok-before.ensures.before, c.requires.within.live, c.replaced_length.ensures c.args.key c.len-key_len.ensures, c.record_length-added.ensures) in
     λ i. record {
       documents = c.in_ok-before.ensures.ok i;
       seq = c.args.self.now.seq + 1;
@@ -33,7 +33,7 @@ pub returns-clause-within_still : goal.returns-clause-within_still
 returns-clause-within_still c =
     let sum = live-set c.args.self.now.documents (key_at 0 c.args.key) (doc_of (c.args.self.now.seq + 1) c.args.meta c.args.body) in
     let live : c.args.self.now.live + c.record_length-added.result - c.replaced_length.result ≡ live_bytes (documents_with c.args.self.now c.args.key c.args.meta c.args.body) =
-        omega (arith, sum, ap (replaced c.args.key) c.in_ok-before.ensures.before, c.requires.within.live, c.replaced_length.ensures c.args.key c.len-key_len.ensures, c.record_length-added.ensures) in
+    omega (arith, sum, ap (replaced c.args.key) c.in_ok-before.ensures.before, c.requires.within.live, c.replaced_length.ensures c.args.key c.len-key_len.ensures, c.record_length-added.ensures) in
     record {
       seq = omega (arith, c.requires.within.seq);
       commit = omega (arith, c.requires.within.commit);
