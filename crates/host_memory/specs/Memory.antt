@@ -1,11 +1,13 @@
 -- What a host in memory tells.
-use Rattle.std.specs.Prelude.{Bool, ◌≡◌, ◌⊎◌, ◌∷◌, ℕ, List, [], length}
+use Rattle.std.specs.Prelude.{Bool, ◌≡◌, ◌⊎◌, ◌-◌, ◌^◌, ◌&&◌, not, if◌then◌else◌, ◌∷◌, ℕ, List, [], length, Result}
+use Rattle.std.specs.Result.{is_err}
 use Rattle.std.proofs.Common.{refl, inl, inr, arith, ⊎_elim}
 use Rattle.block_host.specs.declared.block.Block.{Block}
+use Rattle.block_host.specs.declared.failed.Failed.{Failed}
 use Rattle.block_host.specs.Disk.{Image, Disk, Lawful, risen}
 use Rattle.host_memory.specs.Pending.{FileState, Leaves, Noted}
-use Rattle.host_memory.specs.Faults.{is_due, listed_of}
-use Rattle.host_memory.specs.Held.{held}
+use Rattle.host_memory.specs.Faults.{is_due, listed_of, Numbered, numbered}
+use Rattle.host_memory.specs.Held.{held, Stays}
 use Rattle.host_memory.specs.Since.{Since, Since-below, Since-earlier}
 use Rattle.host_memory.specs.declared.state.State.{State}
 use Rattle.host_memory.specs.declared.fresh.MemoryFresh.{MemoryFresh}
@@ -62,6 +64,13 @@ view_short view = view.own.short
 abbrev pub fresh_short : MemoryFresh → ℕ
 fresh_short fresh = fresh.own.short
 
+-- which calls of a view, and of a fresh file, are to fail
+abbrev pub view_plan : MemoryView → Numbered
+view_plan view = numbered view.own
+
+abbrev pub fresh_plan : MemoryFresh → Numbered
+fresh_plan fresh = numbered fresh.own
+
 -- what is known of a file: its blocks, and the changes that are pending
 abbrev pub memory_file : MemoryHost → ℕ → FileState
 memory_file host = held host.state
@@ -77,12 +86,36 @@ pub record Plan : Type 0 where
 abbrev pub memory_plan : MemoryHost → Plan
 memory_plan host = record { calls = host.own.calls; host = listed_of host.own.listed; views = listed_of host.views; fresh = listed_of host.fresh; stop = host.own.stop }
 
+-- no call was made, and none is to fail
+abbrev pub no_plan : Plan
+no_plan = record { calls = 0; host = []; views = []; fresh = []; stop = 2 ^ 64 - 1 }
+
+-- the greatest size of a fresh file that was absorbed
+abbrev pub memory_greatest : MemoryHost → ℕ
+memory_greatest host = host.greatest
+
 -- the files, what a crash leaves, the bytes said and the counts stay
 pub record Untouched (old new : MemoryHost) : Type 0 where
   pub state : new.state ≡ old.state
   pub past : new.past.items ≡ old.past.items
   pub faults : memory_faults new ≡ memory_faults old
   pub short : memory_short new ≡ memory_short old
+  pub greatest : memory_greatest new ≡ memory_greatest old
+
+-- nothing of the files, of what a crash leaves of them, and of the bytes said changed
+abbrev pub Unmoved : MemoryHost → MemoryHost → Type 0
+Unmoved old new = Stays old.state new.state
+
+-- one more of the host's calls was made
+abbrev pub Counted : MemoryHost → MemoryHost → Type 0
+Counted old new = memory_plan new ≡ record (memory_plan old) { calls = risen (memory_plan old).calls }
+
+-- What a call that can fail does to the counts: it is counted, a failure is a fault, and one of a call that isn't to fail
+-- is want of memory.
+pub record Tried {T : Type 0} (result : Result T Failed) (old new : MemoryHost) : Type 0 where
+  pub counted : Counted old new
+  pub faults : memory_faults new ≡ (if is_err result then risen (memory_faults old) else memory_faults old)
+  pub short : memory_short new ≡ (if is_err result && not (memory_due old) then risen (memory_short old) else memory_short old)
 
 pub Leaves-present : (file : ℕ) (blocks : List Block) (steps : List Noted) → Leaves file blocks steps blocks
 Leaves-present file blocks [] = refl

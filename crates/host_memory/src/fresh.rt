@@ -27,11 +27,12 @@ impl MemoryFresh {
 }
 
 impl Fresh for MemoryFresh {
-    ghost use Rattle.std.specs.Prelude.{◌≡◌, ◌≤◌, ◌++◌, ◌⊎◌, true, Some, IsTrue, IsErr, IfOk, IfErr, OnOk, OnErr, length};
+    ghost use Rattle.std.specs.Prelude.{◌≡◌, ◌≤◌, ◌++◌, ◌⊎◌, ◌&&◌, not, if◌then◌else◌, true, Some, IsTrue, IsErr, IfOk, IfErr, OnOk, OnErr, length};
     ghost use Rattle.std.specs.Result.{is_err};
     ghost use Rattle.block_host.specs.Disk.{risen};
     ghost use Rattle.block_host.specs.Calls.{block_at, Written};
-    ghost use Rattle.host_memory.specs.Memory.{fresh_due, fresh_short};
+    ghost use Rattle.host_memory.specs.Faults.{once_more};
+    ghost use Rattle.host_memory.specs.Memory.{fresh_due, fresh_plan, fresh_short};
 
     ghost tells = { true };
 
@@ -47,6 +48,7 @@ impl Fresh for MemoryFresh {
 
     fn append(&mut self, blocks: &[Block]) -> Result<(), Failed>
         ensures added { IsTrue true → OnOk result (⟦<MemoryFresh as block_host::Fresh>⟧.content self.new ≡ ⟦<MemoryFresh as block_host::Fresh>⟧.content self.old ++ blocks.now) }
+        ensures kept { IsTrue true → OnErr result (⟦<MemoryFresh as block_host::Fresh>⟧.content self.new ≡ ⟦<MemoryFresh as block_host::Fresh>⟧.content self.old) }
         ensures part { IsTrue true → Written (⟦<MemoryFresh as block_host::Fresh>⟧.file self.old) (length (⟦<MemoryFresh as block_host::Fresh>⟧.content self.old)) blocks.now (⟦<MemoryFresh as block_host::Fresh>⟧.content self.old) (⟦<MemoryFresh as block_host::Fresh>⟧.content self.new) }
         ensures file { ⟦<MemoryFresh as block_host::Fresh>⟧.file self.new ≡ ⟦<MemoryFresh as block_host::Fresh>⟧.file self.old }
         ensures counts { ⟦<MemoryFresh as block_host::Fresh>⟧.faults self.old ≤ ⟦<MemoryFresh as block_host::Fresh>⟧.faults self.new }
@@ -54,6 +56,8 @@ impl Fresh for MemoryFresh {
         ensures untroubled { OnOk result (⟦<MemoryFresh as block_host::Fresh>⟧.faults self.new ≡ ⟦<MemoryFresh as block_host::Fresh>⟧.faults self.old) }
         ensures due { IsTrue (fresh_due self.old) → IsErr result }
         ensures cause { OnErr result (IsTrue (fresh_due self.old) ⊎ (fresh_short self.new ≡ risen (fresh_short self.old))) }
+        ensures counted { fresh_plan self.new ≡ once_more (fresh_plan self.old) }
+        ensures short { fresh_short self.new ≡ (if is_err result && not (fresh_due self.old) then risen (fresh_short self.old) else fresh_short self.old) }
     {
         self.own.admit()?;
         if self.blocks.extend_from_slice(blocks).is_err() {
@@ -70,6 +74,8 @@ impl Fresh for MemoryFresh {
         ensures failed { OnErr result (risen (⟦<MemoryFresh as block_host::Fresh>⟧.faults self.old) ≤ ⟦<MemoryFresh as block_host::Fresh>⟧.faults self.new) }
         ensures untroubled { OnOk result (⟦<MemoryFresh as block_host::Fresh>⟧.faults self.new ≡ ⟦<MemoryFresh as block_host::Fresh>⟧.faults self.old) }
         ensures due { is_err result ≡ fresh_due self.old }
+        ensures counted { fresh_plan self.new ≡ once_more (fresh_plan self.old) }
+        ensures short { fresh_short self.new ≡ fresh_short self.old }
     {
         self.own.admit()?;
         *out = match self.blocks.get(at as usize) {
@@ -86,6 +92,8 @@ impl Fresh for MemoryFresh {
         ensures kept { IsTrue true → IfErr result (λ back. ⟦<MemoryFresh as block_host::Fresh>⟧.content back ≡ ⟦<MemoryFresh as block_host::Fresh>⟧.content self) }
         ensures failed { IfErr result (λ back. risen (⟦<MemoryFresh as block_host::Fresh>⟧.faults self) ≤ ⟦<MemoryFresh as block_host::Fresh>⟧.faults back) }
         ensures due { is_err result ≡ fresh_due self }
+        ensures counted { IfErr result (λ back. fresh_plan back ≡ once_more (fresh_plan self)) }
+        ensures short { IfErr result (λ back. fresh_short back ≡ fresh_short self) }
     {
         let mut fresh = self;
         match fresh.own.admit() {

@@ -1,5 +1,5 @@
-ghost use Rattle.std.specs.Prelude.{◌≢◌, ◌<◌, ◌-◌, ◌^◌, slice_get, slice_set, option_copied, OnOk, OnErr, ◌≡◌, ◌≤◌, ◌∷◌, true, ℕ, [], unwrap_or, IfOk};
-ghost use Rattle.host_memory.specs.Faults.{listed_of};
+ghost use Rattle.std.specs.Prelude.{◌≢◌, ◌<◌, ◌-◌, ◌^◌, ◌⊎◌, slice_get, slice_set, option_copied, OnOk, OnErr, ◌≡◌, ◌≤◌, ◌∷◌, true, ℕ, [], unwrap_or, IfOk};
+ghost use Rattle.host_memory.specs.Faults.{listed_of, numbered, only_listed};
 
 use crate::faults::Faults;
 use crate::state::State;
@@ -22,12 +22,12 @@ pub struct MemoryHost {
 }
 
 impl MemoryHost {
-    ghost use Rattle.block_host.specs.Disk.{Image};
+    ghost use Rattle.block_host.specs.Disk.{Image, Elapses};
     ghost use Rattle.block_host.specs.Sealed.{IsSealed, zero_block};
     ghost use Rattle.block_host.specs.declared.block.Block.{Block};
     ghost use Rattle.host_memory.specs.Formatted.{first_slot, first_header};
     ghost use Rattle.host_memory.specs.Pending.{picked};
-    ghost use Rattle.host_memory.specs.Memory.{memory_disk, memory_faults, memory_short, memory_file, memory_plan, Untouched};
+    ghost use Rattle.host_memory.specs.Memory.{memory_disk, memory_faults, memory_short, memory_file, memory_plan, memory_greatest, no_plan, HasRunShort, Untouched};
 
     /// A host without files that has said nothing and not failed.
     pub fn empty(alloc: Global) -> Result<MemoryHost, AllocError>
@@ -37,6 +37,8 @@ impl MemoryHost {
         ensures said { IfOk result (λ host. (memory_disk host).said ≡ []) }
         ensures faults { IfOk result (λ host. memory_faults host ≡ 0) }
         ensures short { IfOk result (λ host. memory_short host ≡ 0) }
+        ensures plan { IfOk result (λ host. memory_plan host ≡ no_plan) }
+        ensures greatest { IfOk result (λ host. memory_greatest host ≡ 0) }
     {
         Ok(MemoryHost {
             alloc,
@@ -59,6 +61,8 @@ impl MemoryHost {
         ensures moment { IfOk result (λ host. (memory_disk host).moment ≡ 0) }
         ensures said { IfOk result (λ host. (memory_disk host).said ≡ []) }
         ensures faults { IfOk result (λ host. (memory_faults host ≡ 0) × (memory_short host ≡ 0)) }
+        ensures plan { IfOk result (λ host. memory_plan host ≡ no_plan) }
+        ensures greatest { IfOk result (λ host. memory_greatest host ≡ 0) }
     {
         let mut host = MemoryHost::empty(alloc)?;
         host.state.put(alloc, 0, &formatted::slot())?;
@@ -125,7 +129,8 @@ impl MemoryHost {
         ensures said { (memory_disk result).said ≡ (memory_disk self).said }
         ensures moment { (memory_disk result).moment ≡ 0 }
         ensures faults { (memory_faults result ≡ 0) × (memory_short result ≡ 0) }
-        ensures plan { memory_plan result ≡ record { calls = 0; host = []; views = []; fresh = []; stop = 2 ^ 64 - 1 } }
+        ensures plan { memory_plan result ≡ no_plan }
+        ensures greatest { memory_greatest result ≡ 0 }
     {
         let mut host = self;
         host.state.crash(pick);
@@ -149,6 +154,11 @@ impl MemoryHost {
         ensures spoiled { memory_short self.new ≡ memory_short self.old → memory_short self.old < 2 ^ 64 - 1 → memory_file self.new file ≡ record { blocks = slice_set (memory_file self.old file).blocks at zero_block; steps = [] } }
         ensures others { (other : ℕ) → other ≢ file → memory_file self.new other ≡ memory_file self.old other }
         ensures said { (memory_disk self.new).said ≡ (memory_disk self.old).said }
+        ensures clock { (memory_disk self.old).moment ≤ (memory_disk self.new).moment }
+        ensures time { Elapses (λ said. said ≡ (memory_disk self.new).said) (memory_disk self.old) (memory_disk self.new) }
+        ensures counts { ((memory_short self.new ≡ memory_short self.old) × (memory_faults self.new ≡ memory_faults self.old)) ⊎ (HasRunShort self.old self.new × (memory_file self.new file ≡ memory_file self.old file)) }
+        ensures plan { memory_plan self.new ≡ memory_plan self.old }
+        ensures greatest { memory_greatest self.new ≡ memory_greatest self.old }
     {
         let past = self.past.and(&self.state);
         match self.state.spoil(self.alloc, file, at) {
@@ -162,7 +172,7 @@ impl MemoryHost {
     // A view on these blocks.
     fn view_of(&self, file: u64) -> Result<MemoryView, AllocError>
         ensures content { IfOk result (λ view. view.blocks ≡ (memory_disk self.now).files file) }
-        ensures made { IfOk result (λ view. view.own.count ≡ 0) }
+        ensures own { IfOk result (λ view. (numbered view.own ≡ only_listed (memory_plan self.now).views) × (view.own.count ≡ 0) × (view.own.short ≡ 0)) }
     {
         let blocks = self.state.share(self.alloc, file)?;
         Ok(MemoryView::new(blocks, Faults::new(again(&self.views)?)))
@@ -172,7 +182,7 @@ impl MemoryHost {
     fn fresh_of(&self, file: u64) -> Result<MemoryFresh, AllocError>
         ensures content { IfOk result (λ fresh. fresh.blocks.items ≡ []) }
         ensures number { IfOk result (λ fresh. fresh.file ≡ file) }
-        ensures made { IfOk result (λ fresh. fresh.own.count ≡ 0) }
+        ensures own { IfOk result (λ fresh. (numbered fresh.own ≡ only_listed (memory_plan self.now).fresh) × (fresh.own.count ≡ 0) × (fresh.own.short ≡ 0)) }
     {
         let own = Faults::new(again(&self.fresh)?);
         Ok(MemoryFresh::new(file, Vec::new(self.alloc), own))
@@ -188,7 +198,8 @@ impl Host for MemoryHost {
     ghost use Rattle.std.specs.Prelude.{◌≡◌, ◌+◌, ◌-◌, ◌^◌, ◌<◌, ◌≤◌, ◌⊎◌, [], min, max, not, true, IsTrue, IsErr, IfOk, OnOk, OnErr, unwrap_or, length};
     ghost use Rattle.block_host.specs.Disk.{Says, risen};
     ghost use Rattle.block_host.specs.Calls.{Reads, Appends, Puts, Cuts, Becomes, Removes, Syncs, NextFile, block_at};
-    ghost use Rattle.host_memory.specs.Memory.{memory_disk, memory_faults, memory_due, memory_short, memory_lawful, HasRunShort, view_short, fresh_short};
+    ghost use Rattle.host_memory.specs.Faults.{only_listed};
+    ghost use Rattle.host_memory.specs.Memory.{memory_disk, memory_faults, memory_due, memory_short, memory_lawful, memory_plan, HasRunShort, Unmoved, Counted, Tried, view_plan, view_short, fresh_plan, fresh_short};
 
     ghost tells = { true };
 
@@ -214,6 +225,7 @@ impl Host for MemoryHost {
         ensures greatest { self.new.greatest ≡ self.old.greatest }
         ensures due { IsTrue (memory_due self.old) → IsErr result }
         ensures cause { OnErr result (IsTrue (memory_due self.old) ⊎ HasRunShort self.old self.new) }
+        ensures tried { Tried result self.old self.new }
     {
         self.own.admit()?;
         Ok(self.state.size(file))
@@ -229,6 +241,7 @@ impl Host for MemoryHost {
         ensures greatest { self.new.greatest ≡ self.old.greatest }
         ensures due { IsTrue (memory_due self.old) → IsErr result }
         ensures cause { OnErr result (IsTrue (memory_due self.old) ⊎ HasRunShort self.old self.new) }
+        ensures tried { Tried result self.old self.new }
     {
         self.own.admit()?;
         *out = self.state.at(file, at);
@@ -244,6 +257,8 @@ impl Host for MemoryHost {
         ensures greatest { self.new.greatest ≡ self.old.greatest }
         ensures due { IsTrue (memory_due self.old) → IsErr result }
         ensures cause { OnErr result (IsTrue (memory_due self.old) ⊎ HasRunShort self.old self.new) }
+        ensures tried { Tried result self.old self.new }
+        ensures nothing { OnErr result (Unmoved self.old self.new) }
     {
         self.own.admit()?;
         let past = self.past.and(&self.state);
@@ -264,6 +279,8 @@ impl Host for MemoryHost {
         ensures greatest { self.new.greatest ≡ self.old.greatest }
         ensures due { IsTrue (memory_due self.old) → IsErr result }
         ensures cause { OnErr result (IsTrue (memory_due self.old) ⊎ HasRunShort self.old self.new) }
+        ensures tried { Tried result self.old self.new }
+        ensures nothing { OnErr result (Unmoved self.old self.new) }
     {
         self.own.admit()?;
         let past = self.past.and(&self.state);
@@ -283,6 +300,8 @@ impl Host for MemoryHost {
         ensures greatest { self.new.greatest ≡ self.old.greatest }
         ensures due { IsTrue (memory_due self.old) → IsErr result }
         ensures cause { OnErr result (IsTrue (memory_due self.old) ⊎ HasRunShort self.old self.new) }
+        ensures tried { Tried result self.old self.new }
+        ensures nothing { OnErr result (Unmoved self.old self.new) }
     {
         self.own.admit()?;
         let past = self.past.and(&self.state);
@@ -302,6 +321,8 @@ impl Host for MemoryHost {
         ensures greatest { self.new.greatest ≡ self.old.greatest }
         ensures due { IsTrue (memory_due self.old) → IsErr result }
         ensures cause { OnErr result (IsTrue (memory_due self.old) ⊎ HasRunShort self.old self.new) }
+        ensures tried { Tried result self.old self.new }
+        ensures nothing { OnErr result (Unmoved self.old self.new) }
     {
         self.own.admit()?;
         self.past = self.past.and(&self.state);
@@ -319,6 +340,7 @@ impl Host for MemoryHost {
         ensures greatest { self.new.greatest ≡ self.old.greatest }
         ensures due { IsTrue (memory_due self.old) → IsErr result }
         ensures cause { OnErr result (IsTrue (memory_due self.old) ⊎ HasRunShort self.old self.new) }
+        ensures tried { Tried result self.old self.new }
     {
         self.own.admit()?;
         Ok(self.state.next(after))
@@ -330,6 +352,8 @@ impl Host for MemoryHost {
         ensures untroubled { memory_faults self.new ≡ memory_faults self.old }
         ensures greatest { self.new.greatest ≡ self.old.greatest }
         ensures due { result ≡ not (memory_due self.old) }
+        ensures counted { Counted self.old self.new }
+        ensures short { memory_short self.new ≡ memory_short self.old }
     {
         if self.own.admit_quietly() {
             self.past = self.past.and(&self.state);
@@ -344,6 +368,8 @@ impl Host for MemoryHost {
         ensures told { IsTrue true → Reads (memory_disk self.old) (memory_disk self.new) }
         ensures content { IsTrue true → IfOk result (λ view. ⟦<MemoryView as block_host::View>⟧.content view ≡ (memory_disk self.old).files file) }
         ensures made { IfOk result (λ view. ⟦<MemoryView as block_host::View>⟧.faults view ≡ 0) }
+        ensures plan { IfOk result (λ view. view_plan view ≡ only_listed (memory_plan self.old).views) }
+        ensures short { IfOk result (λ view. view_short view ≡ 0) }
         ensures clock { (memory_disk self.old).moment ≤ (memory_disk self.new).moment }
         ensures counts { memory_faults self.old ≤ memory_faults self.new }
         ensures failed { OnErr result (risen (memory_faults self.old) ≤ memory_faults self.new) }
@@ -351,6 +377,7 @@ impl Host for MemoryHost {
         ensures greatest { self.new.greatest ≡ self.old.greatest }
         ensures due { IsTrue (memory_due self.old) → IsErr result }
         ensures cause { OnErr result (IsTrue (memory_due self.old) ⊎ HasRunShort self.old self.new) }
+        ensures tried { Tried result self.old self.new }
     {
         self.own.admit()?;
         match self.view_of(file) {
@@ -364,6 +391,7 @@ impl Host for MemoryHost {
         ensures content { IsTrue true → OnOk result (⟦<MemoryView as block_host::View>⟧.content view.new ≡ (memory_disk self.old).files file) }
         ensures kept { IsTrue true → OnErr result (⟦<MemoryView as block_host::View>⟧.content view.new ≡ ⟦<MemoryView as block_host::View>⟧.content view.old) }
         ensures view_count { ⟦<MemoryView as block_host::View>⟧.faults view.new ≡ ⟦<MemoryView as block_host::View>⟧.faults view.old }
+        ensures view_plan { (view_plan view.new ≡ view_plan view.old) × (view_short view.new ≡ view_short view.old) }
         ensures clock { (memory_disk self.old).moment ≤ (memory_disk self.new).moment }
         ensures counts { memory_faults self.old ≤ memory_faults self.new }
         ensures failed { OnErr result (risen (memory_faults self.old) ≤ memory_faults self.new) }
@@ -371,6 +399,7 @@ impl Host for MemoryHost {
         ensures greatest { self.new.greatest ≡ self.old.greatest }
         ensures due { IsTrue (memory_due self.old) → IsErr result }
         ensures cause { OnErr result (IsTrue (memory_due self.old) ⊎ HasRunShort self.old self.new) }
+        ensures tried { Tried result self.old self.new }
     {
         self.own.admit()?;
         match self.state.share(self.alloc, file) {
@@ -390,6 +419,7 @@ impl Host for MemoryHost {
         ensures untroubled { ⟦<MemoryView as block_host::View>⟧.faults view ≡ 0 → memory_faults self.new ≡ memory_faults self.old }
         ensures greatest { self.new.greatest ≡ self.old.greatest }
         ensures short { memory_short self.new ≡ min (memory_short self.old + view_short view) (2 ^ 64 - 1) }
+        ensures plan { memory_plan self.new ≡ memory_plan self.old }
     {
         self.own.absorb(view.own());
     }
@@ -402,6 +432,7 @@ impl Host for MemoryHost {
         ensures untroubled { ⟦<MemoryFresh as block_host::Fresh>⟧.faults fresh ≡ 0 → memory_faults self.new ≡ memory_faults self.old }
         ensures greatest { IsTrue true → self.new.greatest ≡ max (self.old.greatest) (length (⟦<MemoryFresh as block_host::Fresh>⟧.content fresh)) }
         ensures short { memory_short self.new ≡ min (memory_short self.old + fresh_short fresh) (2 ^ 64 - 1) }
+        ensures plan { memory_plan self.new ≡ memory_plan self.old }
     {
         self.own.absorb(fresh.own());
         self.greatest = self.greatest.max(fresh.size());
@@ -412,6 +443,8 @@ impl Host for MemoryHost {
         ensures empty { IsTrue true → IfOk result (λ fresh. ⟦<MemoryFresh as block_host::Fresh>⟧.content fresh ≡ []) }
         ensures number { IfOk result (λ fresh. ⟦<MemoryFresh as block_host::Fresh>⟧.file fresh ≡ file) }
         ensures made { IfOk result (λ fresh. ⟦<MemoryFresh as block_host::Fresh>⟧.faults fresh ≡ 0) }
+        ensures plan { IfOk result (λ fresh. fresh_plan fresh ≡ only_listed (memory_plan self.old).fresh) }
+        ensures short { IfOk result (λ fresh. fresh_short fresh ≡ 0) }
         ensures clock { (memory_disk self.old).moment ≤ (memory_disk self.new).moment }
         ensures counts { memory_faults self.old ≤ memory_faults self.new }
         ensures failed { OnErr result (risen (memory_faults self.old) ≤ memory_faults self.new) }
@@ -419,6 +452,7 @@ impl Host for MemoryHost {
         ensures greatest { self.new.greatest ≡ self.old.greatest }
         ensures due { IsTrue (memory_due self.old) → IsErr result }
         ensures cause { OnErr result (IsTrue (memory_due self.old) ⊎ HasRunShort self.old self.new) }
+        ensures tried { Tried result self.old self.new }
     {
         self.own.admit()?;
         match self.fresh_of(file) {
@@ -436,6 +470,8 @@ impl Host for MemoryHost {
         ensures greatest { self.new.greatest ≡ self.old.greatest }
         ensures due { IsTrue (memory_due self.old) → IsErr result }
         ensures cause { OnErr result (IsTrue (memory_due self.old) ⊎ HasRunShort self.old self.new) }
+        ensures tried { Tried result self.old self.new }
+        ensures nothing { OnErr result (Unmoved self.old self.new) }
     {
         self.own.admit()?;
         let past = self.past.and(&self.state);
@@ -457,6 +493,8 @@ impl Host for MemoryHost {
         ensures greatest { self.new.greatest ≡ self.old.greatest }
         ensures due { IsTrue (memory_due self.old) → IsErr result }
         ensures cause { OnErr result (IsTrue (memory_due self.old) ⊎ HasRunShort self.old self.new) }
+        ensures tried { Tried result self.old self.new }
+        ensures nothing { OnErr result (Unmoved self.old self.new) }
     {
         self.own.admit()?;
         let noted = self.past.and(&self.state);

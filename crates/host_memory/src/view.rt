@@ -38,7 +38,8 @@ impl View for MemoryView {
     ghost use Rattle.std.specs.Result.{is_err};
     ghost use Rattle.block_host.specs.Disk.{risen};
     ghost use Rattle.block_host.specs.Calls.{block_at};
-    ghost use Rattle.host_memory.specs.Memory.{view_due};
+    ghost use Rattle.host_memory.specs.Faults.{once_more};
+    ghost use Rattle.host_memory.specs.Memory.{view_due, view_plan, view_short};
 
     ghost tells = { true };
 
@@ -57,6 +58,8 @@ impl View for MemoryView {
         ensures failed { OnErr result (risen (⟦<MemoryView as block_host::View>⟧.faults self.old) ≤ ⟦<MemoryView as block_host::View>⟧.faults self.new) }
         ensures untroubled { OnOk result (⟦<MemoryView as block_host::View>⟧.faults self.new ≡ ⟦<MemoryView as block_host::View>⟧.faults self.old) }
         ensures due { is_err result ≡ view_due self.old }
+        ensures counted { view_plan self.new ≡ once_more (view_plan self.old) }
+        ensures short { view_short self.new ≡ view_short self.old }
     {
         self.own.admit()?;
         *out = self.blocks.at(at);
