@@ -70,7 +70,7 @@ fn first_lines(text: &[u8], count: usize) -> &[u8] {
         if *byte == b'\n' {
             left -= 1;
         }
-        end += 1;
+        end = end.saturating_add(1);
     }
     text.get(..end).unwrap_or_default()
 }
