@@ -95,7 +95,10 @@ mod tests {
     #[test]
     fn seals_as_the_format_says(rt: HostRuntime) -> Result<(), Fail> {
         // the first example of FIPS 180-4
-        assert_eq!(rt; &Sha256::digest(b"abc")[..8], [186, 120, 22, 191, 143, 1, 207, 234].as_slice());
+        assert_eq!(rt;
+            &Sha256::digest(b"abc")[..8],
+            [186, 120, 22, 191, 143, 1, 207, 234].as_slice()
+        );
         let block = seal(1, 1, 0, b"abc");
         assert_eq!(rt; &block.bytes[..3], b"abc".as_slice());
         assert_eq!(rt; &block.bytes[4064..], TAG_AND_CHECKSUM.as_slice());
