@@ -19,12 +19,13 @@ optional at = long (option_map_or suc at 0)
 abbrev pub store_bytes : StoreRow → List ℕ
 store_bytes s = long s.id ++ (length s.name ∷ []) ++ s.name ++ replicate (31 - length s.name) 0 ++ long s.seq ++ long s.documents
 
--- the fields of a header, 8 bytes each, and its stores
+-- the fields of a header, 8 bytes each
 abbrev pub fields : Header → List ℕ
 fields h =
     long h.commit ++ long h.next_commit ++ optional h.previous ++ optional h.key ++ optional h.seq ++ long h.wal_from
     ++ long h.live ++ long h.next_store ++ long (length h.stores)
 
+-- the fields and the stores
 abbrev pub header_bytes : Header → List ℕ
 header_bytes h = fields h ++ flat_map store_bytes h.stores
 
