@@ -1,7 +1,8 @@
-//! The run of a script: lines are read, run over a store in memory and answered, one after another.
+//! The run of a script: lines are read, run over a store in memory and its file, and answered, one after another.
 //!
-//! `play` promises that what it says is the text of the run of the sequential store over the script's lines,
-//! and that each of its statuses has its cause. A line is run and answered as soon as it is whole.
+//! `play` promises that what it says is the text of the run of the sequential store over the script's lines, that the
+//! file which it leaves is the last file of that run, and that each of its statuses has its cause. A line is run and
+//! answered as soon as it is whole.
 #![tactic(auto)]
 
 mod ledger;
