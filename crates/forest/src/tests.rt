@@ -62,7 +62,7 @@ fn run(
 // The first of these lines, so many.
 fn first_lines(text: &[u8], count: usize) -> &[u8] {
     let mut left = count;
-    let mut end = 0;
+    let mut end: usize = 0;
     for byte in text {
         if left == 0 {
             break;
@@ -108,9 +108,9 @@ fn host_fails_at(
 
 #[test]
 fn each_call_of_the_host_fails(rt: HostRuntime) -> Result<(), Fail> {
-    let mut number = 0;
+    let mut number: u64 = 0;
     for (replies, blocks) in WANTED {
-        number += 1;
+        number = number.saturating_add(1);
         host_fails_at(&rt, rt.alloc(), number, replies, blocks)?;
     }
     Ok(())
