@@ -1,0 +1,39 @@
+-- Rows in the order of store and key.
+use Rattle.std.specs.Prelude.{◌≡◌, ℕ, ◌<◌, ◌≤◌, ◌+◌, List, length, map, slice_index_or, T, Box}
+use Rattle.std.specs.FinMap as finite
+use Rattle.std.specs.declared.cmp.Ordering.TheVariants.{Less, Equal, Greater}
+use Rattle.forest_model.specs.Key.{key_cmp}
+use Rattle.forest_model.specs.declared.documents.DocKey.{DocKey}
+use Rattle.forest_model.specs.declared.stored.Entry.{Entry}
+use Rattle.forest_model.specs.declared.stored.KeyEntry.{KeyEntry}
+use Rattle.wal_index.specs.Index.{key_at}
+
+-- where a row stands, and with it its entry
+abbrev pub key_of : Box KeyEntry → DocKey
+key_of r = key_at r.value.store r.value.key
+
+abbrev pub pair_of : Box KeyEntry → DocKey × Entry
+pair_of r = (key_of r, r.value.entry)
+
+abbrev pub pairs : List (Box KeyEntry) → List (DocKey × Entry)
+pairs = map pair_of
+
+-- keys rise
+abbrev pub AreSorted : List (Box KeyEntry) → Type 0
+AreSorted rows = T (finite.is_sorted key_cmp (pairs rows))
+
+-- the rows before a place have lower keys than q, and those from another place on higher ones
+pub record IsBetween (q : DocKey) (rows : List (Box KeyEntry)) (low high : ℕ) : Type 0 where
+  pub before : (j : ℕ) (d : Box KeyEntry) → j < low → key_cmp q (key_of (slice_index_or rows j d)) ≡ Greater
+  pub behind : (j : ℕ) (d : Box KeyEntry) → high ≤ j → j < length rows → key_cmp q (key_of (slice_index_or rows j d)) ≡ Less
+
+-- the row of q stands at a place
+pub record IsAt (q : DocKey) (rows : List (Box KeyEntry)) (i : ℕ) : Type 0 where
+  pub within : i < length rows
+  pub here : (d : Box KeyEntry) → key_cmp q (key_of (slice_index_or rows i d)) ≡ Equal
+  pub around : IsBetween q rows i (i + 1)
+
+-- the row of q would stand at a place
+pub record IsGap (q : DocKey) (rows : List (Box KeyEntry)) (i : ℕ) : Type 0 where
+  pub within : i ≤ length rows
+  pub around : IsBetween q rows i i

@@ -1,0 +1,125 @@
+ghost use Rattle.std.specs.Prelude.{◌≡◌, ◌≤◌, ◌<◌, [], true, false, length, IfOk, OnOk, OnErr};
+ghost use Rattle.std.specs.FinMap as finite;
+ghost use Rattle.forest_model.specs.declared.refusal.Refusal.TheVariants as Refusal;
+ghost use Rattle.wal_index.specs.Index.{Index, entry_at, nothing, with_entry, without_store, in_order};
+
+use crate::by_key::{get, put, remove_store, Rows};
+use crate::room::Room;
+use forest_model::{Entry, Refusal};
+use std::alloc::Global;
+use std::marker::Model;
+
+/// The newest entries by store and key, and the stores that are gone.
+#[derive(Drop)]
+pub struct WalIndex {
+    rows: Rows,
+    gone: Vec<u64>,
+    // For how many puts there is room.
+    room: u64,
+    // Whether there is room for one more store that goes.
+    may_go: bool,
+    alloc: Global,
+}
+
+impl Model for WalIndex {
+    ghost use Rattle.std.specs.Prelude.{◌≡◌, ◌+◌, ◌≤◌, ◌<◌, true, vec_len, vec_capacity};
+    ghost use Rattle.std.specs.FinMap as finite;
+    ghost use Rattle.wal_index.specs.Index.{Index, coded_index};
+    ghost use Rattle.wal_index.specs.Rows.{pairs, AreSorted};
+
+    ghost Value = { Index };
+
+    ghost coded = { coded_index };
+
+    ghost view = { λ x. record { entries = finite.from_sorted (pairs x.rows.items); gone = x.gone.items; room = x.room; may_go = x.may_go } };
+
+    ghost invariant = { λ x. AreSorted x.rows.items × (vec_len x.rows + x.room ≤ vec_capacity x.rows) × (x.may_go ≡ true → vec_len x.gone < vec_capacity x.gone) };
+}
+
+impl WalIndex {
+    /// The empty index. It takes no memory.
+    pub fn new(alloc: Global) -> WalIndex
+        ensures { result ≡ record { entries = nothing; gone = []; room = 0; may_go = false } }
+    {
+        WalIndex {
+            rows: Vec::new(alloc),
+            gone: Vec::new(alloc),
+            room: 0,
+            may_go: false,
+            alloc,
+        }
+    }
+
+    /// Takes the memory of a put of this key, after which there is room for so many puts.
+    pub fn room(&mut self, key: &[u8], spare: u64) -> Result<Room, Refusal>
+        ensures key { IfOk result (λ room. room ≡ key.now) }
+        ensures room { OnOk result (spare ≤ self.new.room) }
+        ensures entries { self.new.entries ≡ self.old.entries }
+        ensures gone { self.new.gone ≡ self.old.gone }
+        ensures may_go { self.new.may_go ≡ self.old.may_go }
+        ensures no_less { self.old.room ≤ self.new.room }
+        ensures memory { OnErr result (result ≡ Err Refusal.NoMemory) }
+    {
+        let room = Room::of(self.alloc, key)?;
+        if self.room < spare {
+            self.rows.reserve(spare as usize)?;
+            self.room = spare;
+        }
+        Ok(room)
+    }
+
+    /// Puts a newer entry of the room's key. It takes no memory.
+    pub fn put(&mut self, store: u64, room: Room, entry: Entry)
+        requires { 0 < self.old.room }
+        ensures { self.new ≡ with_entry self.old store room entry }
+    {
+        put(&mut self.rows, room.into_row(store, entry));
+        self.room -= 1;
+    }
+
+    /// The newest entry of a key.
+    pub fn get(&self, store: u64, key: &[u8]) -> Option<Entry>
+        ensures { result ≡ entry_at self.now.entries store key.now }
+    {
+        get(self.rows.as_slice(), store, key)
+    }
+
+    /// How many entries there are.
+    pub fn len(&self) -> u64
+        ensures { result ≡ finite.len self.now.entries }
+    {
+        self.rows.len() as u64
+    }
+
+    /// Makes room for one store that goes.
+    pub fn reserve_gone(&mut self) -> Result<(), Refusal>
+        ensures may_go { OnOk result (self.new ≡ record self.old { may_go = true }) }
+        ensures kept { OnErr result (self.new ≡ self.old) }
+        ensures memory { OnErr result (result ≡ Err Refusal.NoMemory) }
+    {
+        self.gone.reserve(1)?;
+        self.may_go = true;
+        Ok(())
+    }
+
+    /// Drops the entries of a store, and keeps that it is gone.
+    pub fn gone(&mut self, store: u64)
+        requires { self.old.may_go ≡ true }
+        ensures { self.new ≡ without_store self.old store }
+    {
+        remove_store(&mut self.rows, store);
+        let _room = self.gone.push(store);
+        self.may_go = false;
+    }
+
+    /// The empty index again. It takes no memory.
+    pub fn clear(&mut self)
+        ensures entries { self.new.entries ≡ nothing }
+        ensures gone { self.new.gone ≡ [] }
+        ensures room { self.new.room ≡ self.old.room }
+        ensures may_go { self.new.may_go ≡ self.old.may_go }
+    {
+        self.rows.clear();
+        self.gone.clear();
+    }
+}

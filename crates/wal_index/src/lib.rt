@@ -1,0 +1,11 @@
+//! The memory index: the newest entry of each key since the last flush, and the stores that are gone.
+//!
+//! It promises that it is a finite map from store and key to entry. A put takes no memory: `room` takes it before.
+#![tactic(auto)]
+
+mod by_key;
+mod index;
+mod room;
+
+pub use index::WalIndex;
+pub use room::Room;
