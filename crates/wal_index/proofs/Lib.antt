@@ -1,2 +1,3 @@
-pub mod Sorted
+pub mod Maps
 pub mod Placed
+pub mod Sorted

@@ -1,7 +1,8 @@
 -- Where the binary search finds the row of a key.
-use Rattle.std.proofs.Common.{◌≡◌, ℕ, ◌<◌, ◌≤◌, ◌+◌, T, List, length, ap, arith, get_or, Ok, Err, ◌⊎◌, inl, inr}
-use Rattle.std.specs.Prelude.{Result, Box, IfOk, IfErr}
-use Rattle.std.specs.Cmp.{IsTotalOrder, nat_cmp_total, on_total, then_total}
+use Rattle.std.proofs.Common.{◌≡◌, ℕ, zero, suc, ◌<◌, ◌≤◌, ◌+◌, T, List, length, refl, ap, subst, arith, get_or, ◌⊎◌, inl, inr}
+use Rattle.std.specs.Prelude.{Result, Ok, Err, IfOk, IfErr}
+use Rattle.std.specs.Global.{Box}
+use Rattle.std.specs.Cmp.{IsTotalOrder, tied_back, nat_cmp_total, on_total, then_total}
 use Rattle.std.specs.Cmp.Lexicographic.{slice_cmp, nat_list_cmp_total}
 use Rattle.std.specs.List.Sorted.{IsBinarySearchResult, IsSearchInRange, IsNonDecreasingBy}
 use Rattle.std.specs.Ordering.{nat_cmp, ordering_index}
@@ -19,18 +20,19 @@ exact_keys a b h =
 pub keys_total : IsTotalOrder key_cmp
 keys_total = then_total (on_total (λ k. k.store) nat_cmp_total) (on_total (λ k. k.key) nat_list_cmp_total)
 
+le_cases : (i j : ℕ) → i ≤ j → (i < j) ⊎ (i ≡ j)
+le_cases zero zero l = inr refl
+le_cases zero (suc j) l = inl (omega arith)
+le_cases (suc i) zero l = absurd (omega arith)
+le_cases (suc i) (suc j) l = elim (le_cases i j (omega arith)) [ inl h ↦ inl (omega arith) | inr e ↦ inr (ap suc e) ]
+
 -- the answers of the search rise
 rises : (q : DocKey) (rows : List (Box KeyEntry)) → AreSorted rows → IsNonDecreasingBy (λ y. ordering_index (key_cmp (key_of y) q)) rows
 rises q rows sorted i j d le within =
-    elim (order i j le) [
+    elim (le_cases i j le) [
       | inl l ↦ below_too keys_total _ _ q (rising key_cmp pair_of rows sorted i j d l within) _ refl
-      | inr e ↦ same i j e
+      | inr e ↦ subst (λ n. ordering_index (key_cmp (key_of (get_or rows i d)) q) ≤ ordering_index (key_cmp (key_of (get_or rows n d)) q)) e (omega arith)
     ]
-  where
-    order : (i j : ℕ) → i ≤ j → (i < j) ⊎ (i ≡ j)
-    order i j le = ?
-    same : (i j : ℕ) → i ≡ j → ordering_index (key_cmp (key_of (get_or rows i d)) q) ≤ ordering_index (key_cmp (key_of (get_or rows j d)) q)
-    same i j e = ?
 
 pub placed_at : (q : DocKey) (rows : List (Box KeyEntry)) (r : Result ℕ ℕ) → AreSorted rows → IsSearchInRange r (length rows) → IsBinarySearchResult (λ y. key_cmp (key_of y) q) rows r → IfOk r (λ i. IsAt q rows i)
 placed_at q rows (Ok i) sorted range found = record {

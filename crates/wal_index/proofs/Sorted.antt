@@ -25,60 +25,60 @@ less Greater p = absurd p
 module _ {K X A : Type 0} (R : K → K → Ordering) (f : A → K × X) where
   -- ---- what stands where
 
-  pub found_at : (q : K) (as : List A) (i : ℕ) (r : A) → i < length as → ((d : A) → R q (f (get_or as i d)).0 ≡ Equal) → ((j : ℕ) (d : A) → j < i → R q (f (get_or as j d)).0 ≡ Greater)
-      → r ≡ get_or as i r → finite.find R q (map f as) ≡ Some (f r).1
+  pub found_at : (q : K) (rs : List A) (i : ℕ) (r : A) → i < length rs → ((d : A) → R q (f (get_or rs i d)).0 ≡ Equal) → ((j : ℕ) (d : A) → j < i → R q (f (get_or rs j d)).0 ≡ Greater)
+      → r ≡ get_or rs i r → finite.find R q (map f rs) ≡ Some (f r).1
   found_at q [] i r within here before is = absurd (omega arith)
-  found_at q (a ∷ as) zero r within here before is =
-      ap (λ o. cond (is_eq o) (Some (f a).1) (finite.find R q (map f as))) (here a) ∙ ap (λ b. Some (f b).1) (sym is)
-  found_at q (a ∷ as) (suc i) r within here before is =
-      ap (λ o. cond (is_eq o) (Some (f a).1) (finite.find R q (map f as))) (before 0 a (omega arith))
-      ∙ found_at q as i r (omega arith) here (λ j d l. before (suc j) d (omega arith)) is
+  found_at q (a ∷ rs) zero r within here before is =
+      ap (λ o. cond (is_eq o) (Some (f a).1) (finite.find R q (map f rs))) (here a) ∙ ap (λ b. Some (f b).1) (sym is)
+  found_at q (a ∷ rs) (suc i) r within here before is =
+      ap (λ o. cond (is_eq o) (Some (f a).1) (finite.find R q (map f rs))) (before 0 a (omega arith))
+      ∙ found_at q rs i r (omega arith) here (λ j d l. before (suc j) d (omega arith)) is
 
-  pub found_nowhere : (q : K) (as : List A) (i : ℕ) → ((j : ℕ) (d : A) → j < i → R q (f (get_or as j d)).0 ≡ Greater) → ((j : ℕ) (d : A) → i ≤ j → j < length as → R q (f (get_or as j d)).0 ≡ Less)
-      → finite.find R q (map f as) ≡ None
+  pub found_nowhere : (q : K) (rs : List A) (i : ℕ) → ((j : ℕ) (d : A) → j < i → R q (f (get_or rs j d)).0 ≡ Greater) → ((j : ℕ) (d : A) → i ≤ j → j < length rs → R q (f (get_or rs j d)).0 ≡ Less)
+      → finite.find R q (map f rs) ≡ None
   found_nowhere q [] i before behind = refl
-  found_nowhere q (a ∷ as) zero before behind =
-      ap (λ o. cond (is_eq o) (Some (f a).1) (finite.find R q (map f as))) (behind 0 a (omega arith) (omega arith))
-      ∙ found_nowhere q as zero (λ j d l. absurd (omega arith)) (λ j d l m. behind (suc j) d (omega arith) (omega arith))
-  found_nowhere q (a ∷ as) (suc i) before behind =
-      ap (λ o. cond (is_eq o) (Some (f a).1) (finite.find R q (map f as))) (before 0 a (omega arith))
-      ∙ found_nowhere q as i (λ j d l. before (suc j) d (omega arith)) (λ j d l m. behind (suc j) d (omega arith) (omega arith))
+  found_nowhere q (a ∷ rs) zero before behind =
+      ap (λ o. cond (is_eq o) (Some (f a).1) (finite.find R q (map f rs))) (behind 0 a (omega arith) (omega arith))
+      ∙ found_nowhere q rs zero (λ j d l. absurd (omega arith)) (λ j d l m. behind (suc j) d (omega arith) (omega arith))
+  found_nowhere q (a ∷ rs) (suc i) before behind =
+      ap (λ o. cond (is_eq o) (Some (f a).1) (finite.find R q (map f rs))) (before 0 a (omega arith))
+      ∙ found_nowhere q rs i (λ j d l. before (suc j) d (omega arith)) (λ j d l m. behind (suc j) d (omega arith) (omega arith))
 
   -- ---- a new entry
 
-  pub put_between : (r : A) (as : List A) (i : ℕ) → i ≤ length as → ((j : ℕ) (d : A) → j < i → R (f r).0 (f (get_or as j d)).0 ≡ Greater)
-      → ((j : ℕ) (d : A) → i ≤ j → j < length as → R (f r).0 (f (get_or as j d)).0 ≡ Less) → map f (take i as ++ r ∷ drop i as) ≡ finite.put R (f r).0 (f r).1 (map f as)
+  pub put_between : (r : A) (rs : List A) (i : ℕ) → i ≤ length rs → ((j : ℕ) (d : A) → j < i → R (f r).0 (f (get_or rs j d)).0 ≡ Greater)
+      → ((j : ℕ) (d : A) → i ≤ j → j < length rs → R (f r).0 (f (get_or rs j d)).0 ≡ Less) → map f (take i rs ++ r ∷ drop i rs) ≡ finite.put R (f r).0 (f r).1 (map f rs)
   put_between r [] zero within before behind = refl
   put_between r [] (suc i) within before behind = absurd (omega arith)
-  put_between r (a ∷ as) zero within before behind =
-      ap (λ o. by_order o (f r ∷ f a ∷ map f as) (((f a).0, (f r).1) ∷ map f as) (f a ∷ finite.put R (f r).0 (f r).1 (map f as))) (sym (behind 0 a (omega arith) (omega arith)))
-  put_between r (a ∷ as) (suc i) within before behind =
-      ap (λ xs. f a ∷ xs) (put_between r as i (omega arith) (λ j d l. before (suc j) d (omega arith)) (λ j d l m. behind (suc j) d (omega arith) (omega arith)))
-      ∙ ap (λ o. by_order o (f r ∷ f a ∷ map f as) (((f a).0, (f r).1) ∷ map f as) (f a ∷ finite.put R (f r).0 (f r).1 (map f as))) (sym (before 0 a (omega arith)))
+  put_between r (a ∷ rs) zero within before behind =
+      ap (λ o. by_order o (f r ∷ f a ∷ map f rs) (((f a).0, (f r).1) ∷ map f rs) (f a ∷ finite.put R (f r).0 (f r).1 (map f rs))) (sym (behind 0 a (omega arith) (omega arith)))
+  put_between r (a ∷ rs) (suc i) within before behind =
+      ap (λ xs. f a ∷ xs) (put_between r rs i (omega arith) (λ j d l. before (suc j) d (omega arith)) (λ j d l m. behind (suc j) d (omega arith) (omega arith)))
+      ∙ ap (λ o. by_order o (f r ∷ f a ∷ map f rs) (((f a).0, (f r).1) ∷ map f rs) (f a ∷ finite.put R (f r).0 (f r).1 (map f rs))) (sym (before 0 a (omega arith)))
 
-  pub put_over : ((x y : K) → R x y ≡ Equal → x ≡ y) → (r : A) (as : List A) (i : ℕ) → i < length as → ((d : A) → R (f r).0 (f (get_or as i d)).0 ≡ Equal)
-      → ((j : ℕ) (d : A) → j < i → R (f r).0 (f (get_or as j d)).0 ≡ Greater) → map f (set as i r) ≡ finite.put R (f r).0 (f r).1 (map f as)
+  pub put_over : ((x y : K) → R x y ≡ Equal → x ≡ y) → (r : A) (rs : List A) (i : ℕ) → i < length rs → ((d : A) → R (f r).0 (f (get_or rs i d)).0 ≡ Equal)
+      → ((j : ℕ) (d : A) → j < i → R (f r).0 (f (get_or rs j d)).0 ≡ Greater) → map f (set rs i r) ≡ finite.put R (f r).0 (f r).1 (map f rs)
   put_over exact r [] i within here before = absurd (omega arith)
-  put_over exact r (a ∷ as) zero within here before =
-      ap (λ (k : K). (k, (f r).1) ∷ map f as) (exact (f r).0 (f a).0 (here a))
-      ∙ ap (λ o. by_order o (f r ∷ f a ∷ map f as) (((f a).0, (f r).1) ∷ map f as) (f a ∷ finite.put R (f r).0 (f r).1 (map f as))) (sym (here a))
-  put_over exact r (a ∷ as) (suc i) within here before =
-      ap (λ xs. f a ∷ xs) (put_over exact r as i (omega arith) here (λ j d l. before (suc j) d (omega arith)))
-      ∙ ap (λ o. by_order o (f r ∷ f a ∷ map f as) (((f a).0, (f r).1) ∷ map f as) (f a ∷ finite.put R (f r).0 (f r).1 (map f as))) (sym (before 0 a (omega arith)))
+  put_over exact r (a ∷ rs) zero within here before =
+      ap (λ (k : K). (k, (f r).1) ∷ map f rs) (exact (f r).0 (f a).0 (here a))
+      ∙ ap (λ o. by_order o (f r ∷ f a ∷ map f rs) (((f a).0, (f r).1) ∷ map f rs) (f a ∷ finite.put R (f r).0 (f r).1 (map f rs))) (sym (here a))
+  put_over exact r (a ∷ rs) (suc i) within here before =
+      ap (λ xs. f a ∷ xs) (put_over exact r rs i (omega arith) here (λ j d l. before (suc j) d (omega arith)))
+      ∙ ap (λ o. by_order o (f r ∷ f a ∷ map f rs) (((f a).0, (f r).1) ∷ map f rs) (f a ∷ finite.put R (f r).0 (f r).1 (map f rs))) (sym (before 0 a (omega arith)))
 
   -- ---- order
 
-  below_at : (x : K) (as : List A) → T (below_all R x (map f as)) → (j : ℕ) (d : A) → j < length as → R x (f (get_or as j d)).0 ≡ Less
+  below_at : (x : K) (rs : List A) → T (below_all R x (map f rs)) → (j : ℕ) (d : A) → j < length rs → R x (f (get_or rs j d)).0 ≡ Less
   below_at x [] below j d within = absurd (omega arith)
-  below_at x (a ∷ as) below zero d within = less _ (first _ _ below)
-  below_at x (a ∷ as) below (suc j) d within = below_at x as (second _ _ below) j d (omega arith)
+  below_at x (a ∷ rs) below zero d within = less _ (first _ _ below)
+  below_at x (a ∷ rs) below (suc j) d within = below_at x rs (second _ _ below) j d (omega arith)
 
-  pub rising : (as : List A) → T (finite.is_sorted R (map f as)) → (i j : ℕ) (d : A) → i < j → j < length as → R (f (get_or as i d)).0 (f (get_or as j d)).0 ≡ Less
+  pub rising : (rs : List A) → T (finite.is_sorted R (map f rs)) → (i j : ℕ) (d : A) → i < j → j < length rs → R (f (get_or rs i d)).0 (f (get_or rs j d)).0 ≡ Less
   rising [] sorted i j d l m = absurd (omega arith)
-  rising (a ∷ as) sorted zero zero d l m = absurd (omega arith)
-  rising (a ∷ as) sorted zero (suc j) d l m = below_at (f a).0 as (first _ _ sorted) j d (omega arith)
-  rising (a ∷ as) sorted (suc i) zero d l m = absurd (omega arith)
-  rising (a ∷ as) sorted (suc i) (suc j) d l m = rising as (second _ _ sorted) i j d (omega arith) (omega arith)
+  rising (a ∷ rs) sorted zero zero d l m = absurd (omega arith)
+  rising (a ∷ rs) sorted zero (suc j) d l m = below_at (f a).0 rs (first _ _ sorted) j d (omega arith)
+  rising (a ∷ rs) sorted (suc i) zero d l m = absurd (omega arith)
+  rising (a ∷ rs) sorted (suc i) (suc j) d l m = rising rs (second _ _ sorted) i j d (omega arith) (omega arith)
 
 -- ---- an order around q
 

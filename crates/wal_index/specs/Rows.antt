@@ -1,5 +1,6 @@
 -- Rows in the order of store and key.
-use Rattle.std.specs.Prelude.{◌≡◌, ℕ, ◌<◌, ◌≤◌, ◌+◌, List, length, map, slice_index_or, T, Box}
+use Rattle.std.specs.Prelude.{◌≡◌, ℕ, ◌<◌, ◌≤◌, ◌+◌, List, length, map, slice_index_or, T}
+use Rattle.std.specs.Global.{Box}
 use Rattle.std.specs.FinMap as finite
 use Rattle.std.specs.declared.cmp.Ordering.TheVariants.{Less, Equal, Greater}
 use Rattle.forest_model.specs.Key.{key_cmp}

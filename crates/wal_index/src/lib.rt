@@ -9,3 +9,6 @@ mod room;
 
 pub use index::WalIndex;
 pub use room::Room;
+
+#[cfg(test)]
+mod tests;

@@ -1,0 +1,20 @@
+use Rattle.std.proofs.Common.{◌≡◌, ◌-◌, ap, sym, ◌∙◌, arith}
+use Rattle.std.specs.FinMap as finite
+use Rattle.forest_model.specs.Key.{key_cmp}
+use Rattle.wal_index.specs.Index.{Index, Map, key_at, with_entry}
+use Rattle.wal_index.specs.Rows.{pairs}
+use Rattle.wal_index.proofs.Maps.{put_sorted, put_map, row_put}
+use Rattle.wal_index.proofs.index.WalIndex.put.Goals as goal
+
+pub invariant_of-self : goal.invariant_of-self
+invariant_of-self c =
+    let es = pairs c.self.inside.rows.items in
+    let room = ap (λ (x : Index). x.room) c.self.view_is in
+    (put_sorted es (pairs c.put.new.rows.items) (key_at c.args.store c.args.room) c.args.entry c.self.invariant.0 (row_put c.self.inside.rows.items c.put.new.rows.items c.into_row.result c.args.store c.args.room c.args.entry c.put.ensures.put c.into_row.ensures), omega (arith, room, c.requires, c.put.ensures.capacity, c.put.ensures.len, c.self.invariant.1), c.self.invariant.2)
+
+pub returns : goal.returns
+returns c =
+    let es = pairs c.self.inside.rows.items in
+    let with_map : Map → Index = λ m. record { entries = m; gone = c.self.inside.gone.items; room = c.self.inside.room - 1; may_go = c.self.inside.may_go } in
+    ap with_map (put_map es (pairs c.put.new.rows.items) (key_at c.args.store c.args.room) c.args.entry c.self.invariant.0 (row_put c.self.inside.rows.items c.put.new.rows.items c.into_row.result c.args.store c.args.room c.args.entry c.put.ensures.put c.into_row.ensures))
+    ∙ ap (λ (x : Index). with_entry x c.args.store c.args.room c.args.entry) c.self.view_is
