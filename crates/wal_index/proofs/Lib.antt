@@ -1,3 +1,4 @@
+pub mod Found
 pub mod Maps
 pub mod Placed
 pub mod Sorted

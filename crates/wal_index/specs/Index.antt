@@ -1,7 +1,8 @@
 -- What was put since the last flush: the newest entry of each key, and the stores that are gone.
-use Rattle.std.specs.Prelude.{◌≡◌, ◌≢◌, ℕ, ◌-◌, ◌+◌, Bool, true, false, not, ◌==◌, List, [], ◌∷◌, ◌++◌, map, Option, Some, None, refl, if◌then◌else◌}
+use Rattle.std.specs.Prelude.{◌≡◌, ◌≢◌, ℕ, ◌-◌, ◌+◌, Bool, true, false, not, ◌&&◌, ◌||◌, ◌==◌, List, [], ◌∷◌, ◌++◌, map, reverse, find, Option, Some, None, refl, if◌then◌else◌}
 use Rattle.std.specs.Cmp.Lexicographic.{slice_cmp}
 use Rattle.std.specs.Coded.{Coded, code_by, coded×, coded_ℕ, coded_bool, coded_list}
+use Rattle.std.specs.Ordering.{is_lt, is_gt, is_eq}
 use Rattle.std.specs.FinMap as finite
 use Rattle.forest_model.specs.Key.{key_cmp, coded_key}
 use Rattle.forest_model.specs.declared.documents.DocKey.{DocKey}
@@ -44,6 +45,21 @@ key_entry e = record { store = e.0.store; key = e.0.key; entry = e.1 }
 
 abbrev pub in_order : Map → List KeyEntry
 in_order m = map key_entry (finite.entries m)
+
+-- whether a search from q upwards, or downwards, comes to k; `with` has it come to q itself
+abbrev pub is_past : Bool → Bool → DocKey → DocKey → Bool
+is_past with up q k = (with && is_eq (key_cmp q k)) || (if up then is_lt (key_cmp q k) else is_gt (key_cmp q k))
+
+-- the nearest of these entries, in their order, that the search comes to in the store of q
+abbrev pub nearest_of : Bool → Bool → List (DocKey × Entry) → DocKey → Option (DocKey × Entry)
+nearest_of with up es q = find (λ e. (e.0.store == q.store) && is_past with up q e.0) (if up then es else reverse es)
+
+abbrev pub nearest : Bool → Bool → Map → DocKey → Option (DocKey × Entry)
+nearest with up m q = nearest_of with up (finite.entries m) q
+
+-- what a look-up in order tells of an entry
+abbrev pub key_and_entry : DocKey × Entry → List ℕ × Entry
+key_and_entry e = (e.0.key, e.1)
 
 abbrev pub coded_entry : Coded Entry
 coded_entry =

@@ -1,11 +1,14 @@
-ghost use Rattle.std.specs.Prelude.{◌≡◌, ◌≤◌, ◌<◌, [], true, false, length, IfOk, OnOk, OnErr};
+ghost use Rattle.std.specs.Prelude.{◌≡◌, ℕ, List, ◌≤◌, ◌<◌, [], true, false, length, IfOk, OnOk, OnErr};
+ghost use Rattle.std.specs.Option.{option_map};
 ghost use Rattle.std.specs.FinMap as finite;
 ghost use Rattle.forest_model.specs.declared.refusal.Refusal.TheVariants as Refusal;
-ghost use Rattle.wal_index.specs.Index.{Index, entry_at, nothing, with_entry, without_store, in_order};
+ghost use Rattle.wal_index.specs.Index.{Index, entry_at, key_at, key_and_entry, nearest, nothing, with_entry, without_store, in_order};
 
 use crate::by_key::{get, put, remove_store, Rows};
+use crate::nearest::{next_down, next_up};
 use crate::room::Room;
-use forest_model::{Entry, Refusal};
+use crate::copies::{list_of, rows_of};
+use forest_model::{Entries, Entry, Refusal, Sequence};
 use std::alloc::Global;
 use std::marker::Model;
 
@@ -84,6 +87,23 @@ impl WalIndex {
         get(self.rows.as_slice(), store, key)
     }
 
+    /// The nearest key of a store above or below this one, or this one itself if `with`, and its entry.
+    pub fn next<'a>(
+        &'a self,
+        store: u64,
+        key: &[u8],
+        with: bool,
+        up: bool,
+    ) -> Option<(&'a [u8], Entry)>
+        ensures { option_map {U = List ℕ × Entry} (λ r. (r.0.now, r.1)) result ≡ option_map key_and_entry (nearest with up self.now.entries (key_at store key.now)) }
+    {
+        if up {
+            next_up(self.rows.as_slice(), store, key, with)
+        } else {
+            next_down(self.rows.as_slice(), store, key, with)
+        }
+    }
+
     /// How many entries there are.
     pub fn len(&self) -> u64
         ensures { result ≡ finite.len self.now.entries }
@@ -110,6 +130,38 @@ impl WalIndex {
         remove_store(&mut self.rows, store);
         let _room = self.gone.push(store);
         self.may_go = false;
+    }
+
+    /// All entries in the order of store and key, with the stores that are gone.
+    pub fn sorted(&self) -> Result<Entries, Refusal>
+        ensures keys { IfOk result (λ all. all.keys ≡ in_order self.now.entries) }
+        ensures gone { IfOk result (λ all. all.gone ≡ self.now.gone) }
+        ensures memory { OnErr result (result ≡ Err Refusal.NoMemory) }
+    {
+        let keys = list_of(self.alloc, self.rows.as_slice())?;
+        let gone = Vec::from_slice(self.alloc, self.gone.as_slice())?;
+        Ok(Entries {
+            keys: Sequence::from_vec(keys),
+            gone: Sequence::from_vec(gone),
+        })
+    }
+
+    /// An index that holds the same, without room.
+    pub fn copy(&mut self) -> Result<WalIndex, Refusal>
+        ensures entries { IfOk result (λ copy. copy.entries ≡ self.old.entries) }
+        ensures gone { IfOk result (λ copy. copy.gone ≡ self.old.gone) }
+        ensures kept { self.new ≡ self.old }
+        ensures memory { OnErr result (result ≡ Err Refusal.NoMemory) }
+    {
+        let rows = rows_of(self.alloc, self.rows.as_slice())?;
+        let gone = Vec::from_slice(self.alloc, self.gone.as_slice())?;
+        Ok(WalIndex {
+            rows,
+            gone,
+            room: 0,
+            may_go: false,
+            alloc: self.alloc,
+        })
     }
 
     /// The empty index again. It takes no memory.

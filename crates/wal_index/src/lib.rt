@@ -4,7 +4,9 @@
 #![tactic(auto)]
 
 mod by_key;
+mod copies;
 mod index;
+mod nearest;
 mod room;
 
 pub use index::WalIndex;

@@ -1,0 +1,19 @@
+use Rattle.std.proofs.Common.{◌≡◌, T, List, rules, ap, sym, ◌∙◌, subst, arith}
+use Rattle.std.specs.FinMap as finite
+use Rattle.forest_model.specs.Key.{key_cmp}
+use Rattle.forest_model.specs.declared.documents.DocKey.{DocKey}
+use Rattle.forest_model.specs.declared.stored.Entry.{Entry}
+use Rattle.wal_index.specs.Index.{Index}
+use Rattle.wal_index.specs.Rows.{pairs, held}
+use Rattle.wal_index.proofs.Maps.{same_pairs}
+use Rattle.wal_index.proofs.index.WalIndex.copy.Goals as goal
+
+pub invariant_of-result : goal.invariant_of-result
+invariant_of-result c =
+    let same = same_pairs c.self.inside.rows.items c.in_ok-rows.rows.items (c.in_ok-rows.ensures.rows ∙ ap held c.as_slice.ensures.value) in
+    (subst (λ (es : List (DocKey × Entry)). T (finite.is_sorted key_cmp es)) (sym same) c.self.invariant.0, search rules, λ wrong. cc)
+
+pub returns-clause-entries : goal.returns-clause-entries
+returns-clause-entries c =
+    let same = same_pairs c.self.inside.rows.items c.in_ok-rows.rows.items (c.in_ok-rows.ensures.rows ∙ ap held c.as_slice.ensures.value) in
+    ap (finite.from_sorted {R = key_cmp}) same ∙ ap (λ (x : Index). x.entries) c.self.view_is
