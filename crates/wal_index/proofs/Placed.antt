@@ -20,7 +20,7 @@ exact_keys a b h =
 pub keys_total : IsTotalOrder key_cmp
 keys_total = then_total (on_total (λ k. k.store) nat_cmp_total) (on_total (λ k. k.key) nat_list_cmp_total)
 
-le_cases : (i j : ℕ) → i ≤ j → (i < j) ⊎ (i ≡ j)
+pub le_cases : (i j : ℕ) → i ≤ j → (i < j) ⊎ (i ≡ j)
 le_cases zero zero l = inr refl
 le_cases zero (suc j) l = inl (omega arith)
 le_cases (suc i) zero l = absurd (omega arith)
