@@ -11,7 +11,7 @@ use Rattle.forest_model.specs.declared.stored.Entry.{Entry}
 use Rattle.forest_model.specs.declared.stored.KeyEntry.{KeyEntry}
 use Rattle.wal_index.specs.Index.{key_at, key_entry}
 use Rattle.wal_index.specs.Rows.{key_of, pair_of, pairs, held}
-use Rattle.wal_index.proofs.Placed.{keys_total, exact_keys}
+use Rattle.wal_index.proofs.Orders.{keys_total, exact_keys}
 
 pub put_sorted : (es fs : List (DocKey × Entry)) (k : DocKey) (v : Entry) → T (finite.is_sorted key_cmp es) → fs ≡ finite.put key_cmp k v es → T (finite.is_sorted key_cmp fs)
 put_sorted es fs k v sorted is = subst (λ gs. T (finite.is_sorted key_cmp gs)) (sym is) (is_sorted-put key_cmp keys_total k v es sorted)

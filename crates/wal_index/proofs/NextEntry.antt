@@ -101,17 +101,17 @@ module _ (with : Bool) (q : DocKey) (rows : List (Box KeyEntry)) (sorted : AreSo
   up_other : (n : ℕ) → IsBorder (is_past (not with) false q) rows n → (r : Box KeyEntry) → get_or rows n r ≡ r → (r.value.store == q.store) ≡ false → (j : ℕ) (d : Box KeyEntry) → n ≤ j → j < length rows
       → ((get_or rows j d).value.store == q.store) ≡ false
   up_other n border r is other j d l m = elim (le_cases n j l) [
-      | inl less ↦
+    | inl less ↦
         let here : r.value.store ≤ (get_or rows j r).value.store = stores_rise (key_of r) (key_of (get_or rows j r)) (ap is_gt (subst (λ (s : Box KeyEntry). key_cmp (key_of s) (key_of (get_or rows j r)) ≡ Less) is (rising key_cmp pair_of rows sorted n j r less m))) in
         let above : q.store ≤ r.value.store = stores_rise q (key_of r) (up_not_above with (key_cmp q (key_of r)) (subst (λ (s : Box KeyEntry). is_past with true q (key_of s) ≡ true) is (up_there n border n r (omega arith) (omega arith)))) in
         let apart : r.value.store ≢ q.store = eqb-false r.value.store q.store other in
         ap (λ (s : Box KeyEntry). s.value.store == q.store) (get_or_default rows j d r m) ∙ differ (get_or rows j r).value.store q.store (λ same. apart (omega arith))
-      | inr e ↦ ap (λ (s : Box KeyEntry). s.value.store == q.store) (ap (λ k. get_or rows k d) (sym e) ∙ get_or_default rows n d r (subst (λ k. k < length rows) (sym e) m) ∙ is) ∙ other
-    ]
+    | inr e ↦ ap (λ (s : Box KeyEntry). s.value.store == q.store) (ap (λ k. get_or rows k d) (sym e) ∙ get_or_default rows n d r (subst (λ k. k < length rows) (sym e) m) ∙ is) ∙ other
+  ]
 
   pub up_at : (n : ℕ) → IsBorder (is_past (not with) false q) rows n → of_store q.store (option_map pair_of (slice_get rows n)) ≡ nearest_of with true (pairs rows) q
   up_at n border = elim (slice_get_cases rows n).1 [
-      | inl here ↦
+    | inl here ↦
         let r = here.0 in
         let p : DocKey × Entry → Bool = λ e. (e.0.store == q.store) && is_past with true q e.0 in
         let past : is_past with true q (key_of r) ≡ true = subst (λ (s : Box KeyEntry). is_past with true q (key_of s) ≡ true) here.3 (up_there n border n r (omega arith) here.1) in
@@ -119,31 +119,31 @@ module _ (with : Bool) (q : DocKey) (rows : List (Box KeyEntry)) (sorted : AreSo
         ∙ elim (r.value.store == q.store) as (λ b. (r.value.store == q.store) ≡ b → (if b then Some (pair_of r) else None) ≡ find p (pairs rows)) [
           | true ↦ λ same. sym (first_at pair_of p rows n r here.1 (sym here.3) (ap (λ b. b && is_past with true q (key_of r)) same ∙ past) (up_before n border))
           | false ↦ λ other. sym (no_first pair_of p rows (λ j d m. elim (le_or_gt n j) [
-              | inl l ↦ fails_by_store true (get_or rows j d) (up_other n border r here.3 other j d l m)
-              | inr l ↦ up_before n border j d l
-            ]))
+            | inl l ↦ fails_by_store true (get_or rows j d) (up_other n border r here.3 other j d l m)
+            | inr l ↦ up_before n border j d l
+          ]))
         ] refl
-      | inr past ↦
+    | inr past ↦
         let p : DocKey × Entry → Bool = λ e. (e.0.store == q.store) && is_past with true q e.0 in
         ap (λ o. of_store q.store (option_map pair_of o)) past.1 ∙ sym (no_first pair_of p rows (λ j d m. up_before n border j d (let le : length rows ≤ n = past.0 in omega arith)))
-    ]
+  ]
 
   -- before a row of another store all are of other stores
   down_other : (n : ℕ) → n < length rows → IsBorder (is_past with false q) rows (n + 1) → (r : Box KeyEntry) → get_or rows n r ≡ r → (r.value.store == q.store) ≡ false → (j : ℕ) (d : Box KeyEntry) → j ≤ n
       → ((get_or rows j d).value.store == q.store) ≡ false
   down_other n within border r is other j d l = elim (le_cases j n l) [
-      | inl less ↦
+    | inl less ↦
         let here : (get_or rows j r).value.store ≤ r.value.store = stores_rise (key_of (get_or rows j r)) (key_of r) (ap is_gt (subst (λ (s : Box KeyEntry). key_cmp (key_of (get_or rows j r)) (key_of s) ≡ Less) is (rising key_cmp pair_of rows sorted j n r less within))) in
         let below : r.value.store ≤ q.store = stores_fall q (key_of r) (down_not_below with (key_cmp q (key_of r)) (subst (λ (s : Box KeyEntry). is_past with false q (key_of s) ≡ true) is (border.before n r (omega arith)))) in
         let apart : r.value.store ≢ q.store = eqb-false r.value.store q.store other in
         let m : j < length rows = omega arith in
         ap (λ (s : Box KeyEntry). s.value.store == q.store) (get_or_default rows j d r m) ∙ differ (get_or rows j r).value.store q.store (λ same. apart (omega arith))
-      | inr e ↦ ap (λ (s : Box KeyEntry). s.value.store == q.store) (ap (λ k. get_or rows k d) e ∙ get_or_default rows n d r within ∙ is) ∙ other
-    ]
+    | inr e ↦ ap (λ (s : Box KeyEntry). s.value.store == q.store) (ap (λ k. get_or rows k d) e ∙ get_or_default rows n d r within ∙ is) ∙ other
+  ]
 
   pub down_at : (n : ℕ) → n < length rows → IsBorder (is_past with false q) rows (n + 1) → of_store q.store (option_map pair_of (slice_get rows n)) ≡ nearest_of with false (pairs rows) q
   down_at n within border = elim (slice_get_cases rows n).1 [
-      | inl here ↦
+    | inl here ↦
         let r = here.0 in
         let p : DocKey × Entry → Bool = λ e. (e.0.store == q.store) && is_past with false q e.0 in
         let past : is_past with false q (key_of r) ≡ true = subst (λ (s : Box KeyEntry). is_past with false q (key_of s) ≡ true) here.3 (border.before n r (omega arith)) in
@@ -151,12 +151,12 @@ module _ (with : Bool) (q : DocKey) (rows : List (Box KeyEntry)) (sorted : AreSo
         ∙ elim (r.value.store == q.store) as (λ b. (r.value.store == q.store) ≡ b → (if b then Some (pair_of r) else None) ≡ find p (reverse (pairs rows))) [
           | true ↦ λ same. sym (last_at pair_of p rows n r here.1 (sym here.3) (ap (λ b. b && is_past with false q (key_of r)) same ∙ past) (λ j d l m. fails_by_key false (get_or rows j d) (border.behind j d (omega arith) m)))
           | false ↦ λ other. sym (no_last pair_of p rows (λ j d m. elim (le_or_gt (n + 1) j) [
-              | inl l ↦ fails_by_key false (get_or rows j d) (border.behind j d l m)
-              | inr l ↦ fails_by_store false (get_or rows j d) (down_other n within border r here.3 other j d (omega arith))
-            ]))
+            | inl l ↦ fails_by_key false (get_or rows j d) (border.behind j d l m)
+            | inr l ↦ fails_by_store false (get_or rows j d) (down_other n within border r here.3 other j d (omega arith))
+          ]))
         ] refl
-      | inr past ↦ absurd (let le : length rows ≤ n = past.0 in omega arith)
-    ]
+    | inr past ↦ absurd (let le : length rows ≤ n = past.0 in omega arith)
+  ]
 
   pub down_none : IsBorder (is_past with false q) rows 0 → None ≡ nearest_of with false (pairs rows) q
   down_none border =

@@ -1,7 +1,7 @@
 -- Lists whose keys rise: what stands where, and what a new entry does.
 use Rattle.std.proofs.Common.{◌≡◌, ℕ, zero, suc, ◌<◌, ◌≤◌, ◌+◌, Bool, true, false, cond, ◌&&◌, T, List, [], ◌∷◌, ◌++◌, length, take, drop, map, filter, refl, sym, ap, ◌∙◌, subst, arith, get_or}
 use Rattle.std.proofs.Math.ListN.{set}
-use Rattle.std.specs.Prelude.{Some, None}
+use Rattle.std.specs.Prelude.{Some, None, not}
 use Rattle.std.specs.Cmp.{IsTotalOrder, alike_right, tied_back}
 use Rattle.std.specs.FinMap as finite
 use Rattle.std.specs.FinMap.Entries.{by_order, below_all}
@@ -65,6 +65,28 @@ module _ {K X A : Type 0} (R : K → K → Ordering) (f : A → K × X) where
   put_over exact r (a ∷ rs) (suc i) within here before =
       ap (λ xs. f a ∷ xs) (put_over exact r rs i (omega arith) here (λ j d l. before (suc j) d (omega arith)))
       ∙ ap (λ o. by_order o (f r ∷ f a ∷ map f rs) (((f a).0, (f r).1) ∷ map f rs) (f a ∷ finite.put R (f r).0 (f r).1 (map f rs))) (sym (before 0 a (omega arith)))
+
+  -- ---- without an entry
+
+  pub kept_between : (q : K) (rs : List A) (i : ℕ) → ((j : ℕ) (d : A) → j < i → R q (f (get_or rs j d)).0 ≡ Greater) → ((j : ℕ) (d : A) → i ≤ j → j < length rs → R q (f (get_or rs j d)).0 ≡ Less)
+      → map f rs ≡ filter (λ e. not (is_eq (R q e.0))) (map f rs)
+  kept_between q [] i before behind = refl
+  kept_between q (a ∷ rs) zero before behind =
+      ap (λ xs. f a ∷ xs) (kept_between q rs zero (λ j d l. absurd (omega arith)) (λ j d l m. behind (suc j) d (omega arith) (omega arith)))
+      ∙ ap (λ o. cond (not (is_eq o)) (f a ∷ filter (λ e. not (is_eq (R q e.0))) (map f rs)) (filter (λ e. not (is_eq (R q e.0))) (map f rs))) (sym (behind 0 a (omega arith) (omega arith)))
+  kept_between q (a ∷ rs) (suc i) before behind =
+      ap (λ xs. f a ∷ xs) (kept_between q rs i (λ j d l. before (suc j) d (omega arith)) (λ j d l m. behind (suc j) d (omega arith) (omega arith)))
+      ∙ ap (λ o. cond (not (is_eq o)) (f a ∷ filter (λ e. not (is_eq (R q e.0))) (map f rs)) (filter (λ e. not (is_eq (R q e.0))) (map f rs))) (sym (before 0 a (omega arith)))
+
+  pub removed_at : (q : K) (rs : List A) (i : ℕ) → i < length rs → ((d : A) → R q (f (get_or rs i d)).0 ≡ Equal) → ((j : ℕ) (d : A) → j < i → R q (f (get_or rs j d)).0 ≡ Greater)
+      → ((j : ℕ) (d : A) → i + 1 ≤ j → j < length rs → R q (f (get_or rs j d)).0 ≡ Less) → map f (take i rs ++ drop (suc i) rs) ≡ filter (λ e. not (is_eq (R q e.0))) (map f rs)
+  removed_at q [] i within here before behind = absurd (omega arith)
+  removed_at q (a ∷ rs) zero within here before behind =
+      kept_between q rs zero (λ j d l. absurd (omega arith)) (λ j d l m. behind (suc j) d (omega arith) (omega arith))
+      ∙ ap (λ o. cond (not (is_eq o)) (f a ∷ filter (λ e. not (is_eq (R q e.0))) (map f rs)) (filter (λ e. not (is_eq (R q e.0))) (map f rs))) (sym (here a))
+  removed_at q (a ∷ rs) (suc i) within here before behind =
+      ap (λ xs. f a ∷ xs) (removed_at q rs i (omega arith) here (λ j d l. before (suc j) d (omega arith)) (λ j d l m. behind (suc j) d (omega arith) (omega arith)))
+      ∙ ap (λ o. cond (not (is_eq o)) (f a ∷ filter (λ e. not (is_eq (R q e.0))) (map f rs)) (filter (λ e. not (is_eq (R q e.0))) (map f rs))) (sym (before 0 a (omega arith)))
 
   -- ---- order
 

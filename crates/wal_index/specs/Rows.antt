@@ -2,7 +2,6 @@
 use Rattle.std.specs.Prelude.{◌≡◌, ℕ, Bool, true, false, ◌<◌, ◌≤◌, ◌+◌, List, length, map, slice_index_or, T, Option, Some, None, ◌==◌, if◌then◌else◌}
 use Rattle.std.specs.Global.{Box}
 use Rattle.std.specs.FinMap as finite
-use Rattle.std.specs.declared.cmp.Ordering.TheVariants.{Less, Equal, Greater}
 use Rattle.forest_model.specs.Key.{key_cmp}
 use Rattle.forest_model.specs.declared.documents.DocKey.{DocKey}
 use Rattle.forest_model.specs.declared.stored.Entry.{Entry}
@@ -26,22 +25,6 @@ held = map (λ r. r.value)
 -- keys rise
 abbrev pub AreSorted : List (Box KeyEntry) → Type 0
 AreSorted rows = T (finite.is_sorted key_cmp (pairs rows))
-
--- the rows before a place have lower keys than q, and those from another place on higher ones
-pub record IsBetween (q : DocKey) (rows : List (Box KeyEntry)) (low high : ℕ) : Type 0 where
-  pub before : (j : ℕ) (d : Box KeyEntry) → j < low → key_cmp q (key_of (slice_index_or rows j d)) ≡ Greater
-  pub behind : (j : ℕ) (d : Box KeyEntry) → high ≤ j → j < length rows → key_cmp q (key_of (slice_index_or rows j d)) ≡ Less
-
--- the row of q stands at a place
-pub record IsAt (q : DocKey) (rows : List (Box KeyEntry)) (i : ℕ) : Type 0 where
-  pub within : i < length rows
-  pub here : (d : Box KeyEntry) → key_cmp q (key_of (slice_index_or rows i d)) ≡ Equal
-  pub around : IsBetween q rows i (i + 1)
-
--- the row of q would stand at a place
-pub record IsGap (q : DocKey) (rows : List (Box KeyEntry)) (i : ℕ) : Type 0 where
-  pub within : i ≤ length rows
-  pub around : IsBetween q rows i i
 
 -- p holds of the keys of the first n rows, and of no other
 pub record IsBorder (p : DocKey → Bool) (rows : List (Box KeyEntry)) (n : ℕ) : Type 0 where

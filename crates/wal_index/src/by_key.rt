@@ -3,7 +3,8 @@ ghost use Rattle.std.specs.Option.{option_map};
 ghost use Rattle.std.specs.FinMap as finite;
 ghost use Rattle.forest_model.specs.Key.{key_cmp};
 ghost use Rattle.wal_index.specs.Index.{key_at};
-ghost use Rattle.wal_index.specs.Rows.{pairs, pair_of, AreSorted, IsAt, IsGap};
+ghost use Rattle.wal_index.specs.Places.{IsAt, IsGap};
+ghost use Rattle.wal_index.specs.Rows.{pairs, pair_of, AreSorted, key_of};
 
 use forest_model::{Entry, KeyEntry};
 use std::cmp::Ordering;
@@ -19,8 +20,8 @@ fn compare(row: &KeyEntry, store: u64, key: &[u8]) -> Ordering
 // Where the row of a key stands, and where it would.
 pub(crate) fn place(rows: &[Box<KeyEntry>], store: u64, key: &[u8]) -> Result<usize, usize>
     requires { AreSorted rows.now }
-    ensures at { IfOk result (λ i. IsAt (key_at store key.now) rows.now i) }
-    ensures gap { IfErr result (λ i. IsGap (key_at store key.now) rows.now i) }
+    ensures at { IfOk result (λ i. IsAt key_cmp key_of (key_at store key.now) rows.now i) }
+    ensures gap { IfErr result (λ i. IsGap key_cmp key_of (key_at store key.now) rows.now i) }
 {
     rows.binary_search_by(|row| compare(row, store, key))
 }

@@ -4,10 +4,10 @@ ghost use Rattle.std.specs.FinMap as finite;
 ghost use Rattle.forest_model.specs.declared.refusal.Refusal.TheVariants as Refusal;
 ghost use Rattle.wal_index.specs.Index.{Index, entry_at, key_at, key_and_entry, nearest, nothing, with_entry, without_store, in_order};
 
-use crate::by_key::{get, put, remove_store, Rows};
+use crate::by_key::{Rows, get, put, remove_store};
+use crate::copies::{list_of, rows_of};
 use crate::nearest::{next_down, next_up};
 use crate::room::Room;
-use crate::copies::{list_of, rows_of};
 use forest_model::{Entries, Entry, Refusal, Sequence};
 use std::alloc::Global;
 use std::marker::Model;

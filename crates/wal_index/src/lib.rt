@@ -4,6 +4,7 @@
 #![tactic(auto)]
 
 mod by_key;
+mod by_number;
 mod copies;
 mod index;
 mod nearest;

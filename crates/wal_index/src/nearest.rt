@@ -12,13 +12,7 @@ fn border(rows: &[Box<KeyEntry>], store: u64, key: &[u8], through: bool) -> usiz
     ensures { IsBorder (is_past through false (key_at store key.now)) rows.now result }
 {
     match place(rows, store, key) {
-        Ok(at) => {
-            if through {
-                at + 1
-            } else {
-                at
-            }
-        }
+        Ok(at) => { if through { at + 1 } else { at } }
         Err(at) => at,
     }
 }
