@@ -6,10 +6,11 @@ use Rattle.std.proofs.lemmas.Bool.{eqb-true, eqb-false}
 use Rattle.forest_model.specs.Key.{key_cmp}
 use Rattle.forest_model.specs.declared.documents.DocKey.{DocKey}
 use Rattle.forest_model.specs.declared.stored.Entry.{Entry}
+use Rattle.forest_model.specs.declared.stored.KeyEntry.{KeyEntry}
 use Rattle.std.specs.Global.{Box}
 use Rattle.std.specs.Cmp.{tied_itself, Equal-is}
 use Rattle.std.specs.FinMap as finite
-use Rattle.std.specs.FinMap.Entries.{find-where_key, find-put}
+use Rattle.std.specs.FinMap.Entries.{find-where_key, find-put, is_sorted-where_key, is_sorted-put}
 use Rattle.std.specs.Ordering.{is_eq}
 use Rattle.wal_index.specs.declared.by_number.Numbered.{Numbered}
 use Rattle.wal_index.specs.Numbers.{number_cmp, number_of, numbers_at, mark_of, marks, holds, has, Agree, without_older}
@@ -113,3 +114,19 @@ agree_without es ns store agree n =
     ap is_some (find-where_key number_cmp (λ m. not (m.store == store)) n (λ x t. ap (λ (m : Numbered). not (m.store == store)) (sym (exact_numbers n x t))) ns)
     ∙ elim (not (n.store == store)) as (λ b. is_some (cond b (finite.find number_cmp n ns) None) ≡ option_map_or (λ e. e.seq == n.seq) (cond b (finite.find key_cmp (key_at n.store n.key) es) None) false) [ true ↦ agree n | false ↦ refl ]
     ∙ sym (ap (λ (o : Option Entry). option_map_or (λ e. e.seq == n.seq) o false) (find-where_key key_cmp (λ d. not (d.store == store)) (key_at n.store n.key) (λ x t. ap (λ (d : DocKey). not (d.store == store)) (sym (exact_keys (key_at n.store n.key) x t))) es))
+
+pub older_sorted : (older : Option Entry) (store : ℕ) (key : List ℕ) (ns : List (Numbered × Unit {0})) → T (finite.is_sorted number_cmp ns) → T (finite.is_sorted number_cmp (without_older older store key ns))
+older_sorted None store key ns sorted = sorted
+older_sorted (Some e) store key ns sorted = is_sorted-where_key number_cmp (λ m. not (is_eq (number_cmp (numbers_at store e.seq key) m))) ns sorted
+
+pub number_sorted : (ns ms : List (Numbered × Unit {0})) (k : Numbered) → T (finite.is_sorted number_cmp ns) → ms ≡ finite.put number_cmp k tt ns → T (finite.is_sorted number_cmp ms)
+number_sorted ns ms k sorted is = subst (λ (xs : List (Numbered × Unit {0})). T (finite.is_sorted number_cmp xs)) (sym is) (is_sorted-put number_cmp numbers_total k tt ns sorted)
+
+pub both_agree : (es es2 : List (DocKey × Entry)) (ns mid ms : List (Numbered × Unit {0})) (row : KeyEntry) (number : Numbered) (older : Option Entry) (store again : ℕ) (key copy : List ℕ) → Agree es ns
+    → number ≡ numbers_at row.store row.entry.seq row.key → store ≡ row.store → key ≡ row.key → again ≡ row.store → copy ≡ row.key → older ≡ finite.find key_cmp (key_at store key) es
+    → mid ≡ without_older older again copy ns → es2 ≡ finite.put key_cmp (key_at row.store row.key) row.entry es → ms ≡ finite.put number_cmp number tt mid → Agree es2 ms
+both_agree es es2 ns mid ms row number older store again key copy agree number_is store_is key_is again_is copy_is older_is mid_is es2_is ms_is n =
+    let found : older ≡ finite.find key_cmp (key_at row.store row.key) es = older_is ∙ ap (λ (s : ℕ). finite.find key_cmp (key_at s key) es) store_is ∙ ap (λ (k : List ℕ). finite.find key_cmp (key_at row.store k) es) key_is in
+    let rest : mid ≡ without_older older row.store row.key ns = mid_is ∙ ap (λ (s : ℕ). without_older older s copy ns) again_is ∙ ap (λ (k : List ℕ). without_older older row.store k ns) copy_is in
+    let made : ms ≡ finite.put number_cmp (numbers_at row.store row.entry.seq row.key) tt (without_older older row.store row.key ns) = ms_is ∙ ap (λ (k : Numbered). finite.put number_cmp k tt mid) number_is ∙ ap (finite.put number_cmp (numbers_at row.store row.entry.seq row.key) tt) rest in
+    ap (λ (xs : List (Numbered × Unit {0})). holds xs n) made ∙ agree_put es ns row.store row.key row.entry older agree found n ∙ ap (λ (xs : List (DocKey × Entry)). has xs n) (sym es2_is)

@@ -3,6 +3,7 @@
 //! It promises that it is a finite map from store and key to entry. A put takes no memory: `room` takes it before.
 #![tactic(auto)]
 
+mod both;
 mod by_key;
 mod by_number;
 mod copies;
