@@ -130,3 +130,9 @@ both_agree es es2 ns mid ms row number older store again key copy agree number_i
     let rest : mid ≡ without_older older row.store row.key ns = mid_is ∙ ap (λ (s : ℕ). without_older older s copy ns) again_is ∙ ap (λ (k : List ℕ). without_older older row.store k ns) copy_is in
     let made : ms ≡ finite.put number_cmp (numbers_at row.store row.entry.seq row.key) tt (without_older older row.store row.key ns) = ms_is ∙ ap (λ (k : Numbered). finite.put number_cmp k tt mid) number_is ∙ ap (finite.put number_cmp (numbers_at row.store row.entry.seq row.key) tt) rest in
     ap (λ (xs : List (Numbered × Unit {0})). holds xs n) made ∙ agree_put es ns row.store row.key row.entry older agree found n ∙ ap (λ (xs : List (DocKey × Entry)). has xs n) (sym es2_is)
+
+pub marks_sorted : (ns ms : List (Numbered × Unit {0})) (p : Numbered → Bool) → T (finite.is_sorted number_cmp ns) → ms ≡ filter (λ e. p e.0) ns → T (finite.is_sorted number_cmp ms)
+marks_sorted ns ms p sorted is = subst (λ (xs : List (Numbered × Unit {0})). T (finite.is_sorted number_cmp xs)) (sym is) (is_sorted-where_key number_cmp p ns sorted)
+
+pub none_agree : (es : List (DocKey × Entry)) (ns : List (Numbered × Unit {0})) → es ≡ [] → ns ≡ [] → Agree es ns
+none_agree es ns no_entry no_number n = ap (λ (xs : List (Numbered × Unit {0})). holds xs n) no_number ∙ sym (ap (λ (xs : List (DocKey × Entry)). has xs n) no_entry)

@@ -1,11 +1,12 @@
 -- Numbers of newest entries, in the order of store, number and key.
-use Rattle.std.specs.Prelude.{◌≡◌, ℕ, Bool, false, List, map, filter, T, Option, Some, None, is_some, not, ◌==◌}
+use Rattle.std.specs.Prelude.{◌≡◌, ℕ, ◌<◌, ◌≤◌, Bool, false, List, length, slice_index_or, map, filter, T, Option, Some, None, is_some, not, ◌==◌}
 use Rattle.std.specs.Global.{Box}
 use Rattle.std.specs.Option.{option_map_or}
-use Rattle.std.specs.Ordering.{nat_cmp, ordering_then, is_eq}
+use Rattle.std.specs.Ordering.{nat_cmp, ordering_then, is_eq, is_gt}
 use Rattle.std.specs.Cmp.Lexicographic.{slice_cmp}
 use Rattle.std.specs.FinMap as finite
 use Rattle.std.specs.declared.cmp.Ordering.{Ordering}
+use Rattle.std.specs.declared.cmp.Ordering.TheVariants.{Greater}
 use Rattle.forest_model.specs.Key.{key_cmp}
 use Rattle.forest_model.specs.declared.documents.DocKey.{DocKey}
 use Rattle.forest_model.specs.declared.stored.Entry.{Entry}
@@ -47,3 +48,9 @@ Agree es ns = (n : Numbered) → holds ns n ≡ has es n
 abbrev pub without_older : Option Entry → ℕ → List ℕ → List (Numbered × Unit {0}) → List (Numbered × Unit {0})
 without_older None store key ns = ns
 without_older (Some e) store key ns = filter (λ m. not (is_eq (number_cmp (numbers_at store e.seq key) m.0))) ns
+
+-- the first n numbers are lower than q, and the others are not
+pub record IsStart (q : Numbered) (numbers : List (Box Numbered)) (n : ℕ) : Type 0 where
+  pub within : n ≤ length numbers
+  pub before : (j : ℕ) (d : Box Numbered) → j < n → number_cmp q (slice_index_or numbers j d).value ≡ Greater
+  pub behind : (j : ℕ) (d : Box Numbered) → n ≤ j → j < length numbers → is_gt (number_cmp q (slice_index_or numbers j d).value) ≡ false

@@ -4,8 +4,10 @@ ghost use Rattle.std.specs.FinMap as finite;
 ghost use Rattle.forest_model.specs.declared.refusal.Refusal.TheVariants as Refusal;
 ghost use Rattle.wal_index.specs.Index.{Index, entry_at, key_at, key_and_entry, nearest, nothing, with_entry, without_store, in_order};
 
-use crate::by_key::{Rows, get, put, remove_store};
-use crate::copies::{list_of, rows_of};
+use crate::both::put_both;
+use crate::by_key::{get, remove_store, Rows};
+use crate::by_number::{remove_numbers_of, Numbers};
+use crate::copies::{list_of, numbers_of, rows_of};
 use crate::nearest::{next_down, next_up};
 use crate::room::Room;
 use forest_model::{Entries, Entry, Refusal, Sequence};
@@ -16,6 +18,7 @@ use std::marker::Model;
 #[derive(Drop)]
 pub struct WalIndex {
     rows: Rows,
+    numbers: Numbers,
     gone: Vec<u64>,
     // For how many puts there is room.
     room: u64,
@@ -28,6 +31,7 @@ impl Model for WalIndex {
     ghost use Rattle.std.specs.Prelude.{◌≡◌, ◌+◌, ◌≤◌, ◌<◌, true, vec_len, vec_capacity};
     ghost use Rattle.std.specs.FinMap as finite;
     ghost use Rattle.wal_index.specs.Index.{Index, coded_index};
+    ghost use Rattle.wal_index.specs.Numbers.{marks, AreNumbersSorted, Agree};
     ghost use Rattle.wal_index.specs.Rows.{pairs, AreSorted};
 
     ghost Value = { Index };
@@ -36,7 +40,7 @@ impl Model for WalIndex {
 
     ghost view = { λ x. record { entries = finite.from_sorted (pairs x.rows.items); gone = x.gone.items; room = x.room; may_go = x.may_go } };
 
-    ghost invariant = { λ x. AreSorted x.rows.items × (vec_len x.rows + x.room ≤ vec_capacity x.rows) × (x.may_go ≡ true → vec_len x.gone < vec_capacity x.gone) };
+    ghost invariant = { λ x. AreSorted x.rows.items × (vec_len x.rows + x.room ≤ vec_capacity x.rows) × (x.may_go ≡ true → vec_len x.gone < vec_capacity x.gone) × AreNumbersSorted x.numbers.items × (vec_len x.numbers + x.room ≤ vec_capacity x.numbers) × Agree (pairs x.rows.items) (marks x.numbers.items) };
 }
 
 impl WalIndex {
@@ -46,6 +50,7 @@ impl WalIndex {
     {
         WalIndex {
             rows: Vec::new(alloc),
+            numbers: Vec::new(alloc),
             gone: Vec::new(alloc),
             room: 0,
             may_go: false,
@@ -66,6 +71,7 @@ impl WalIndex {
         let room = Room::of(self.alloc, key)?;
         if self.room < spare {
             self.rows.reserve(spare as usize)?;
+            self.numbers.reserve(spare as usize)?;
             self.room = spare;
         }
         Ok(room)
@@ -76,7 +82,8 @@ impl WalIndex {
         requires { 0 < self.old.room }
         ensures { self.new ≡ with_entry self.old store room entry }
     {
-        put(&mut self.rows, room.into_row(store, entry));
+        let (row, number) = room.into_parts(store, entry);
+        put_both(&mut self.rows, &mut self.numbers, row, number);
         self.room -= 1;
     }
 
@@ -128,6 +135,7 @@ impl WalIndex {
         ensures { self.new ≡ without_store self.old store }
     {
         remove_store(&mut self.rows, store);
+        remove_numbers_of(&mut self.numbers, store);
         let _room = self.gone.push(store);
         self.may_go = false;
     }
@@ -154,9 +162,11 @@ impl WalIndex {
         ensures memory { OnErr result (result ≡ Err Refusal.NoMemory) }
     {
         let rows = rows_of(self.alloc, self.rows.as_slice())?;
+        let numbers = numbers_of(self.alloc, self.numbers.as_slice())?;
         let gone = Vec::from_slice(self.alloc, self.gone.as_slice())?;
         Ok(WalIndex {
             rows,
+            numbers,
             gone,
             room: 0,
             may_go: false,
@@ -172,6 +182,7 @@ impl WalIndex {
         ensures may_go { self.new.may_go ≡ self.old.may_go }
     {
         self.rows.clear();
+        self.numbers.clear();
         self.gone.clear();
     }
 }

@@ -9,6 +9,7 @@ mod by_number;
 mod copies;
 mod index;
 mod nearest;
+mod numbered;
 mod room;
 
 pub use index::WalIndex;

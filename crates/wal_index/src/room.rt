@@ -1,6 +1,9 @@
 ghost use Rattle.std.specs.Prelude.{◌≡◌, IfOk, OnErr};
 ghost use Rattle.forest_model.specs.declared.refusal.Refusal.TheVariants as Refusal;
 
+ghost use Rattle.wal_index.specs.Numbers.{numbers_at};
+
+use crate::by_number::Numbered;
 use forest_model::{Bytes, Entry, KeyEntry, Refusal};
 use std::alloc::Global;
 use std::marker::Model;
@@ -9,14 +12,17 @@ use std::marker::Model;
 #[derive(Drop)]
 pub struct Room {
     row: Box<KeyEntry>,
+    number: Box<Numbered>,
 }
 
 impl Model for Room {
-    ghost use Rattle.std.specs.Prelude.{List, ℕ};
+    ghost use Rattle.std.specs.Prelude.{◌≡◌, List, ℕ};
 
     ghost Value = { List ℕ };
 
     ghost view = { λ r. r.row.value.key };
+
+    ghost invariant = { λ r. r.number.value.key ≡ r.row.value.key };
 }
 
 impl Room {
@@ -34,18 +40,27 @@ impl Room {
                 len: 0,
             },
         };
+        let number = Numbered {
+            store: 0,
+            seq: 0,
+            key: Bytes::copy_of(alloc, key)?,
+        };
         Ok(Room {
             row: Box::new(alloc, row)?,
+            number: Box::new(alloc, number)?,
         })
     }
 
-    // The row of this key with a store and an entry.
-    pub(crate) fn into_row(self, store: u64, entry: Entry) -> Box<KeyEntry>
-        ensures { result.value ≡ record { store = store; key = self; entry = entry } }
+    // The row of this key with a store and an entry, and its number.
+    pub(crate) fn into_parts(self, store: u64, entry: Entry) -> (Box<KeyEntry>, Box<Numbered>)
+        ensures row { result.0.value ≡ record { store = store; key = self; entry = entry } }
+        ensures number { result.1.value ≡ numbers_at store entry.seq self }
     {
-        let Room { mut row } = self;
+        let Room { mut row, mut number } = self;
         row.store = store;
         row.entry = entry;
-        row
+        number.store = store;
+        number.seq = entry.seq;
+        (row, number)
     }
 }
