@@ -1,6 +1,6 @@
 -- The key of a number stands where the numbers of its store that aren't lower begin.
 use Rattle.std.proofs.Common.{◌≡◌, ℕ, zero, suc, ◌<◌, ◌≤◌, Bool, true, false, List, [], ◌∷◌, length, refl, sym, ap, ◌∙◌, subst, inl, inr, arith, get_or}
-use Rattle.std.specs.Prelude.{Some, None, is_some}
+use Rattle.std.specs.Prelude.{Option, Some, None, is_some, IfNone}
 use Rattle.std.specs.Global.{Box}
 use Rattle.std.specs.Cmp.{tied_itself}
 use Rattle.std.specs.Cmp.Lexicographic.{slice_cmp}
@@ -32,17 +32,22 @@ then_less Equal Less c d h apart = refl
 then_less Equal Greater c d h apart = cc
 then_less Equal Equal c d h apart = absurd (apart refl refl)
 
+-- an element of a list is the same with every default
+pub same_at : {X : Type 0} (xs : List X) (j : ℕ) (d e : X) → j < length xs → get_or xs j d ≡ get_or xs j e
+same_at [] j d e l = absurd (omega arith)
+same_at (x ∷ xs) zero d e l = refl
+same_at (x ∷ xs) (suc j) d e l = same_at xs j d e (omega arith)
+
+pub none_then : {X : Type 0} (r : Option X) {P Q : Type 0} → IfNone r P → (P → Q) → IfNone r Q
+none_then None h f = f h
+none_then (Some x) h f = tt
+
 module _ (numbers : List (Box Numbered)) (sorted : AreNumbersSorted numbers) where
   pub held_at : (i : ℕ) (r : Box Numbered) → i < length numbers → r ≡ get_or numbers i r → holds (marks numbers) r.value ≡ true
   held_at i r within is = ap is_some (found_at number_cmp mark_of r.value numbers i r within
-      (λ d. ap (λ (s : Box Numbered). number_cmp r.value s.value) (same numbers i d r within ∙ sym is) ∙ tied_itself numbers_total r.value)
-      (λ j d l. turned_less numbers_total _ r.value (ap (λ (s : Box Numbered). number_cmp (get_or numbers j d).value s.value) (is ∙ same numbers i r d within) ∙ rising number_cmp mark_of numbers sorted j i d l within))
+      (λ d. ap (λ (s : Box Numbered). number_cmp r.value s.value) (same_at numbers i d r within ∙ sym is) ∙ tied_itself numbers_total r.value)
+      (λ j d l. turned_less numbers_total _ r.value (ap (λ (s : Box Numbered). number_cmp (get_or numbers j d).value s.value) (is ∙ same_at numbers i r d within) ∙ rising number_cmp mark_of numbers sorted j i d l within))
       is)
-    where
-      same : (xs : List (Box Numbered)) (j : ℕ) (d e : Box Numbered) → j < length xs → get_or xs j d ≡ get_or xs j e
-      same [] j d e l = absurd (omega arith)
-      same (x ∷ xs) zero d e l = refl
-      same (x ∷ xs) (suc j) d e l = same xs j d e (omega arith)
 
   pub absent_from : (store seq i : ℕ) → IsStart (numbers_at store seq []) numbers i → ((d : Box Numbered) → i < length numbers → (get_or numbers i d).value.store ≡ store → (get_or numbers i d).value.seq ≡ seq → ⊥)
       → (key : List ℕ) → holds (marks numbers) (numbers_at store seq key) ≡ false

@@ -1,6 +1,6 @@
 -- What was put since the last flush: the newest entry of each key, and the stores that are gone.
 use Rattle.std.specs.Prelude.{◌≡◌, ◌≢◌, ℕ, ◌-◌, ◌+◌, Bool, true, false, not, ◌&&◌, ◌||◌, ◌==◌, List, [], ◌∷◌, ◌++◌, map, reverse, find, Option, Some, None, refl, if◌then◌else◌}
-use Rattle.std.specs.Cmp.Lexicographic.{slice_cmp}
+use Rattle.std.specs.Option.{option_map_or}
 use Rattle.std.specs.Coded.{Coded, code_by, coded×, coded_ℕ, coded_bool, coded_list}
 use Rattle.std.specs.Ordering.{is_lt, is_gt, is_eq}
 use Rattle.std.specs.FinMap as finite
@@ -26,6 +26,10 @@ key_at store key = record { store = store; key = key }
 
 abbrev pub entry_at : Map → ℕ → List ℕ → Option Entry
 entry_at m store key = finite.get m (key_at store key)
+
+-- whether the newest entry of a key has this number
+abbrev pub has_number : Map → ℕ → ℕ → List ℕ → Bool
+has_number m store seq key = option_map_or (λ e. e.seq == seq) (entry_at m store key) false
 
 -- the index of no entry
 abbrev pub nothing : Map

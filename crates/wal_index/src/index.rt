@@ -1,14 +1,15 @@
-ghost use Rattle.std.specs.Prelude.{◌≡◌, ℕ, List, ◌≤◌, ◌<◌, [], true, false, length, IfOk, OnOk, OnErr};
+ghost use Rattle.std.specs.Prelude.{◌≡◌, ℕ, List, ◌≤◌, ◌<◌, [], true, false, length, IfSome, IfNone, IfOk, OnOk, OnErr};
 ghost use Rattle.std.specs.Option.{option_map};
 ghost use Rattle.std.specs.FinMap as finite;
 ghost use Rattle.forest_model.specs.declared.refusal.Refusal.TheVariants as Refusal;
-ghost use Rattle.wal_index.specs.Index.{Index, entry_at, key_at, key_and_entry, nearest, nothing, with_entry, without_store, in_order};
+ghost use Rattle.wal_index.specs.Index.{Index, entry_at, has_number, key_at, key_and_entry, nearest, nothing, with_entry, without_store, in_order};
 
 use crate::both::put_both;
 use crate::by_key::{get, remove_store, Rows};
 use crate::by_number::{remove_numbers_of, Numbers};
 use crate::copies::{list_of, numbers_of, rows_of};
 use crate::nearest::{next_down, next_up};
+use crate::numbered::key_of;
 use crate::room::Room;
 use forest_model::{Entries, Entry, Refusal, Sequence};
 use std::alloc::Global;
@@ -92,6 +93,14 @@ impl WalIndex {
         ensures { result ≡ entry_at self.now.entries store key.now }
     {
         get(self.rows.as_slice(), store, key)
+    }
+
+    /// The key of a store whose newest entry has this number.
+    pub fn by_seq(&self, store: u64, seq: u64) -> Option<&[u8]>
+        ensures found { IfSome result (λ key. has_number self.now.entries store seq key.now ≡ true) }
+        ensures absent { IfNone result ((key : List ℕ) → has_number self.now.entries store seq key ≡ false) }
+    {
+        key_of(self.numbers.as_slice(), store, seq)
     }
 
     /// The nearest key of a store above or below this one, or this one itself if `with`, and its entry.
