@@ -54,11 +54,11 @@ module _ (numbers : List (Box Numbered)) (sorted : AreNumbersSorted numbers) whe
   absent_from store seq i start apart key =
       let q = numbers_at store seq key in
       let here : (d : Box Numbered) → i < length numbers → number_cmp q (get_or numbers i d).value ≡ Less = λ d m.
-          then_less (nat_cmp store (get_or numbers i d).value.store) (nat_cmp seq (get_or numbers i d).value.seq) (slice_cmp nat_cmp [] (get_or numbers i d).value.key) (slice_cmp nat_cmp key (get_or numbers i d).value.key) (start.behind i d (omega arith) m)
-          (λ a b. apart d m (sym (exact_unsigned store (get_or numbers i d).value.store a)) (sym (exact_unsigned seq (get_or numbers i d).value.seq b))) in
+      then_less (nat_cmp store (get_or numbers i d).value.store) (nat_cmp seq (get_or numbers i d).value.seq) (slice_cmp nat_cmp [] (get_or numbers i d).value.key) (slice_cmp nat_cmp key (get_or numbers i d).value.key) (start.behind i d (omega arith) m)
+      (λ a b. apart d m (sym (exact_unsigned store (get_or numbers i d).value.store a)) (sym (exact_unsigned seq (get_or numbers i d).value.seq b))) in
       ap is_some (found_nowhere number_cmp mark_of q numbers i
-        (λ j d l. still_greater (nat_cmp store (get_or numbers j d).value.store) (nat_cmp seq (get_or numbers j d).value.seq) (slice_cmp nat_cmp [] (get_or numbers j d).value.key) (slice_cmp nat_cmp key (get_or numbers j d).value.key) (none_below (get_or numbers j d).value.key) (start.before j d l))
-        (λ j d l m. elim (le_cases i j l) [
-          | inl less ↦ numbers_total.trans q (get_or numbers i d).value (get_or numbers j d).value (here d (omega arith)) (rising number_cmp mark_of numbers sorted i j d less m)
-          | inr e ↦ ap (λ (k : ℕ). number_cmp q (get_or numbers k d).value) (sym e) ∙ here d (subst (λ (k : ℕ). k < length numbers) (sym e) m)
-        ]))
+      (λ j d l. still_greater (nat_cmp store (get_or numbers j d).value.store) (nat_cmp seq (get_or numbers j d).value.seq) (slice_cmp nat_cmp [] (get_or numbers j d).value.key) (slice_cmp nat_cmp key (get_or numbers j d).value.key) (none_below (get_or numbers j d).value.key) (start.before j d l))
+      (λ j d l m. elim (le_cases i j l) [
+        | inl less ↦ numbers_total.trans q (get_or numbers i d).value (get_or numbers j d).value (here d (omega arith)) (rising number_cmp mark_of numbers sorted i j d less m)
+        | inr e ↦ ap (λ (k : ℕ). number_cmp q (get_or numbers k d).value) (sym e) ∙ here d (subst (λ (k : ℕ). k < length numbers) (sym e) m)
+      ]))

@@ -95,16 +95,16 @@ agree_put es ns store key entry older agree is n =
     held_with k n rest
     ∙ elim (is_eq (key_cmp (key_at n.store n.key) q)) as (λ b. is_eq (key_cmp (key_at n.store n.key) q) ≡ b → cond (is_eq (number_cmp n k)) true (holds rest n) ≡ cond b (entry.seq == n.seq) (has es n)) [
       | true ↦ λ t.
-        let same : key_at n.store n.key ≡ q = exact_keys (key_at n.store n.key) q ((Equal-is (key_cmp (key_at n.store n.key) q)).0 t) in
-        let store_is : n.store ≡ store = ap (λ (d : DocKey). d.store) same in
-        let key_is : n.key ≡ key = ap (λ (d : DocKey). d.key) same in
-        elim (entry.seq == n.seq) as (λ b. (entry.seq == n.seq) ≡ b → cond (is_eq (number_cmp n k)) true (holds rest n) ≡ b) [
-          | true ↦ λ s. ap (λ b. cond b true (holds rest n)) (ties n k (number_is n k store_is (sym (eqb-true entry.seq n.seq s)) key_is))
-          | false ↦ λ s. ap (λ b. cond b true (holds rest n)) (no_tie n k (λ e. eqb-false entry.seq n.seq s (ap (λ (m : Numbered). m.seq) (sym e)))) ∙ older_gone es ns store key older n agree is store_is key_is
-        ] refl
+          let same : key_at n.store n.key ≡ q = exact_keys (key_at n.store n.key) q ((Equal-is (key_cmp (key_at n.store n.key) q)).0 t) in
+          let store_is : n.store ≡ store = ap (λ (d : DocKey). d.store) same in
+          let key_is : n.key ≡ key = ap (λ (d : DocKey). d.key) same in
+          elim (entry.seq == n.seq) as (λ b. (entry.seq == n.seq) ≡ b → cond (is_eq (number_cmp n k)) true (holds rest n) ≡ b) [
+            | true ↦ λ s. ap (λ b. cond b true (holds rest n)) (ties n k (number_is n k store_is (sym (eqb-true entry.seq n.seq s)) key_is))
+            | false ↦ λ s. ap (λ b. cond b true (holds rest n)) (no_tie n k (λ e. eqb-false entry.seq n.seq s (ap (λ (m : Numbered). m.seq) (sym e)))) ∙ older_gone es ns store key older n agree is store_is key_is
+          ] refl
       | false ↦ λ t.
-        let apart : (key_at n.store n.key ≡ q) → ⊥ = λ e. let wrong : true ≡ false = sym (ap is_eq (tied_itself keys_total q)) ∙ ap (λ (d : DocKey). is_eq (key_cmp d q)) (sym e) ∙ t in cc in
-        ap (λ b. cond b true (holds rest n)) (no_tie n k (λ e. apart (ap (λ (m : Numbered). key_at m.store m.key) e))) ∙ others_held ns store key older n apart ∙ agree n
+          let apart : (key_at n.store n.key ≡ q) → ⊥ = λ e. let wrong : true ≡ false = sym (ap is_eq (tied_itself keys_total q)) ∙ ap (λ (d : DocKey). is_eq (key_cmp d q)) (sym e) ∙ t in cc in
+          ap (λ b. cond b true (holds rest n)) (no_tie n k (λ e. apart (ap (λ (m : Numbered). key_at m.store m.key) e))) ∙ others_held ns store key older n apart ∙ agree n
     ] refl
     ∙ sym (has_with q entry es n)
 

@@ -4,8 +4,8 @@ ghost use Rattle.forest_model.specs.Key.{key_cmp};
 ghost use Rattle.wal_index.specs.Numbers.{numbers_at, marks, AreNumbersSorted, Agree, without_older};
 ghost use Rattle.wal_index.specs.Rows.{pairs, pair_of, AreSorted};
 
-use crate::by_key::{get, put, Rows};
-use crate::by_number::{put_number, remove_number, Numbered, Numbers};
+use crate::by_key::{Rows, get, put};
+use crate::by_number::{Numbered, Numbers, put_number, remove_number};
 use forest_model::{Entry, KeyEntry};
 
 // Removes the number of a key's older entry, where there is one.
@@ -21,7 +21,12 @@ fn remove_older(numbers: &mut Numbers, older: Option<Entry>, store: u64, key: &[
 }
 
 // Puts a key's newer entry, and its number in the place of the older one's. There is capacity for both.
-pub(crate) fn put_both(rows: &mut Rows, numbers: &mut Numbers, row: Box<KeyEntry>, number: Box<Numbered>)
+pub(crate) fn put_both(
+    rows: &mut Rows,
+    numbers: &mut Numbers,
+    row: Box<KeyEntry>,
+    number: Box<Numbered>,
+)
     requires sorted { AreSorted rows.old.items }
     requires numbers_sorted { AreNumbersSorted numbers.old.items }
     requires agree { Agree (pairs rows.old.items) (marks numbers.old.items) }

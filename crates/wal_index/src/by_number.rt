@@ -21,16 +21,19 @@ pub(crate) type Numbers = Vec<Box<Numbered>>;
 fn compare(number: &Numbered, store: u64, seq: u64, key: &[u8]) -> Ordering
     ensures { result ≡ number_cmp number.now (numbers_at store seq key.now) }
 {
-    number.store.cmp(&store).then(
-        number
-            .seq
-            .cmp(&seq)
-            .then(number.key.as_slice().cmp(key)),
-    )
+    number
+        .store
+        .cmp(&store)
+        .then(number.seq.cmp(&seq).then(number.key.as_slice().cmp(key)))
 }
 
 // Where the number of a key stands, and where it would.
-pub(crate) fn place(numbers: &[Box<Numbered>], store: u64, seq: u64, key: &[u8]) -> Result<usize, usize>
+pub(crate) fn place(
+    numbers: &[Box<Numbered>],
+    store: u64,
+    seq: u64,
+    key: &[u8],
+) -> Result<usize, usize>
     requires { AreNumbersSorted numbers.now }
     ensures at { IfOk result (λ i. IsAt number_cmp number_of (numbers_at store seq key.now) numbers.now i) }
     ensures gap { IfErr result (λ i. IsGap number_cmp number_of (numbers_at store seq key.now) numbers.now i) }
@@ -46,7 +49,12 @@ pub(crate) fn put_number(numbers: &mut Numbers, number: Box<Numbered>)
     ensures capacity { vec_capacity numbers.old ≤ vec_capacity numbers.new }
     ensures len { vec_len numbers.new ≤ vec_len numbers.old + 1 }
 {
-    match place(numbers.as_slice(), number.store, number.seq, number.key.as_slice()) {
+    match place(
+        numbers.as_slice(),
+        number.store,
+        number.seq,
+        number.key.as_slice(),
+    ) {
         Ok(at) => numbers[at] = number,
         Err(at) => {
             let _room = numbers.insert(at, number);

@@ -5,8 +5,8 @@ ghost use Rattle.forest_model.specs.declared.refusal.Refusal.TheVariants as Refu
 ghost use Rattle.wal_index.specs.Index.{Index, entry_at, has_number, key_at, key_and_entry, nearest, nothing, with_entry, without_store, in_order};
 
 use crate::both::put_both;
-use crate::by_key::{get, remove_store, Rows};
-use crate::by_number::{remove_numbers_of, Numbers};
+use crate::by_key::{Rows, get, remove_store};
+use crate::by_number::{Numbers, remove_numbers_of};
 use crate::copies::{list_of, numbers_of, rows_of};
 use crate::nearest::{next_down, next_up};
 use crate::numbered::key_of;

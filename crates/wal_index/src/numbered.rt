@@ -1,7 +1,7 @@
 ghost use Rattle.std.specs.Prelude.{◌≡◌, [], List, ℕ, true, false, IfSome, IfNone};
 ghost use Rattle.wal_index.specs.Numbers.{numbers_at, marks, holds, AreNumbersSorted, IsStart};
 
-use crate::by_number::{place, Numbered};
+use crate::by_number::{Numbered, place};
 
 // How many numbers are lower than this one of the store.
 fn start_of(numbers: &[Box<Numbered>], store: u64, seq: u64) -> usize

@@ -1,6 +1,5 @@
 ghost use Rattle.std.specs.Prelude.{◌≡◌, IfOk, OnErr};
 ghost use Rattle.forest_model.specs.declared.refusal.Refusal.TheVariants as Refusal;
-
 ghost use Rattle.wal_index.specs.Numbers.{numbers_at};
 
 use crate::by_number::Numbered;
@@ -56,7 +55,10 @@ impl Room {
         ensures row { result.0.value ≡ record { store = store; key = self; entry = entry } }
         ensures number { result.1.value ≡ numbers_at store entry.seq self }
     {
-        let Room { mut row, mut number } = self;
+        let Room {
+            mut row,
+            mut number,
+        } = self;
         row.store = store;
         row.entry = entry;
         number.store = store;

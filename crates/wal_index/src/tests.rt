@@ -5,7 +5,7 @@ use std::test::*;
 fn entry(seq: u64, live: bool) -> Entry {
     Entry {
         seq,
-        address: 8 * seq,
+        address: seq,
         live,
         len: 32,
     }
@@ -44,6 +44,10 @@ fn the_newest_entry_is_got(rt: HostRuntime) -> Result<(), Fail> {
     assert_eq!(rt; index.next(1, b"b", false, true), None);
     assert_eq!(rt; index.next(0, b"b", false, true), None);
     assert_eq!(rt; index.next(1, b"a", false, false), None);
+    assert_eq!(rt; index.by_seq(1, 4), Some(b"ab".as_slice()));
+    assert_eq!(rt; index.by_seq(1, 3), Some(b"b".as_slice()));
+    assert_eq!(rt; index.by_seq(1, 1), None);
+    assert_eq!(rt; index.by_seq(0, 1), Some(b"b".as_slice()));
     let all = index.sorted()?;
     assert_eq!(rt; all.keys.len(), 4);
     assert_eq!(rt; index.copy()?.get(1, b"ab"), Some(entry(4, true)));

@@ -17,7 +17,7 @@ pub returns-clause-numbers_sorted : goal.returns-clause-numbers_sorted
 returns-clause-numbers_sorted c =
     number_sorted (marks c.remove_older.new.numbers.items) (marks c.put_number.new.numbers.items) c.args.number.value
     (subst (λ (ms : List (Numbered × Unit {0})). T (finite.is_sorted number_cmp ms)) (sym c.remove_older.ensures.removed)
-      (older_sorted c.get-older.result c.deref-3.result.now.store c.as_slice-3.result.now (marks c.args.numbers.now.items) c.requires.numbers_sorted))
+    (older_sorted c.get-older.result c.deref-3.result.now.store c.as_slice-3.result.now (marks c.args.numbers.now.items) c.requires.numbers_sorted))
     c.put_number.ensures.put
 
 pub returns-clause-agree : goal.returns-clause-agree

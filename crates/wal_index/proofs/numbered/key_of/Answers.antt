@@ -21,5 +21,5 @@ pub returns-in-Some-clause-absent : goal.returns-in-Some-clause-absent
 returns-in-Some-clause-absent c =
     let number_is = c.in-Some.ensures.lookup.1 in
     none_then c.key_if.result c.key_if.ensures.absent (λ other. absent_from c.args.numbers.now c.requires c.args.store c.args.seq c.start_of-at.result c.start_of-at.ensures (λ d m s n.
-      let there = same_at c.args.numbers.now c.start_of-at.result d c.in-Some.number.now m ∙ sym number_is in
-      other (ap (λ (v : Numbered). v.store) c.deref.ensures ∙ sym (ap (λ (b : Box Numbered). b.value.store) there) ∙ s) (ap (λ (v : Numbered). v.seq) c.deref.ensures ∙ sym (ap (λ (b : Box Numbered). b.value.seq) there) ∙ n)))
+    let there = same_at c.args.numbers.now c.start_of-at.result d c.in-Some.number.now m ∙ sym number_is in
+    other (ap (λ (v : Numbered). v.store) c.deref.ensures ∙ sym (ap (λ (b : Box Numbered). b.value.store) there) ∙ s) (ap (λ (v : Numbered). v.seq) c.deref.ensures ∙ sym (ap (λ (b : Box Numbered). b.value.seq) there) ∙ n)))

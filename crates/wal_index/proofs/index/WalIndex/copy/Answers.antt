@@ -13,10 +13,14 @@ use Rattle.wal_index.proofs.index.WalIndex.copy.Goals as goal
 pub invariant_of-result : goal.invariant_of-result
 invariant_of-result c =
     let same = same_pairs c.self.inside.rows.items c.in_ok-rows.rows.items (c.in_ok-rows.ensures.rows ∙ ap held c.as_slice.ensures.value) in
-    let numbers : marks c.in_ok-numbers.numbers.items ≡ marks c.self.inside.numbers.items = c.in_ok-numbers.ensures.numbers ∙ ap marks c.as_slice-2.ensures.value in
-    (subst (λ (es : List (DocKey × Entry)). T (finite.is_sorted key_cmp es)) (sym same) c.self.invariant.0, search rules, λ wrong. cc,
-      subst (λ (ms : List (Numbered × Unit {0})). T (finite.is_sorted number_cmp ms)) (sym numbers) c.self.invariant.3, search rules,
-      λ n. ap (λ ms. holds ms n) numbers ∙ c.self.invariant.5 n ∙ ap (λ es. has es n) (sym same))
+    let numbers : marks c.in_ok-numbers.numbers.items ≡ marks c.self.inside.numbers.items = c.in_ok-numbers.ensures.numbers ∙ ap marks c.as_slice-2.ensures.value in (
+      subst (λ (es : List (DocKey × Entry)). T (finite.is_sorted key_cmp es)) (sym same) c.self.invariant.0,
+      search rules,
+      λ wrong. cc,
+      subst (λ (ms : List (Numbered × Unit {0})). T (finite.is_sorted number_cmp ms)) (sym numbers) c.self.invariant.3,
+      search rules,
+      λ n. ap (λ ms. holds ms n) numbers ∙ c.self.invariant.5 n ∙ ap (λ es. has es n) (sym same),
+    )
 
 pub returns-clause-entries : goal.returns-clause-entries
 returns-clause-entries c =

@@ -10,11 +10,14 @@ use Rattle.wal_index.proofs.Maps.{without_sorted, without_map}
 use Rattle.wal_index.proofs.index.WalIndex.gone.Goals as goal
 
 pub invariant_of-self : goal.invariant_of-self
-invariant_of-self c =
-    (without_sorted (pairs c.self.inside.rows.items) (pairs c.remove_store.new.rows.items) (λ k. not (k.store == c.args.store)) c.self.invariant.0 c.remove_store.ensures.removed, omega (arith, c.remove_store.ensures.capacity, c.remove_store.ensures.len, c.self.invariant.1), λ wrong. cc,
-      marks_sorted (marks c.self.inside.numbers.items) (marks c.remove_numbers_of.new.numbers.items) (λ n. not (n.store == c.args.store)) c.self.invariant.3 c.remove_numbers_of.ensures.removed,
-      omega (arith, c.remove_numbers_of.ensures.capacity, c.remove_numbers_of.ensures.len, c.self.invariant.4),
-      λ n. ap (λ ms. holds ms n) c.remove_numbers_of.ensures.removed ∙ agree_without (pairs c.self.inside.rows.items) (marks c.self.inside.numbers.items) c.args.store c.self.invariant.5 n ∙ ap (λ es. has es n) (sym c.remove_store.ensures.removed))
+invariant_of-self c = (
+  without_sorted (pairs c.self.inside.rows.items) (pairs c.remove_store.new.rows.items) (λ k. not (k.store == c.args.store)) c.self.invariant.0 c.remove_store.ensures.removed,
+  omega (arith, c.remove_store.ensures.capacity, c.remove_store.ensures.len, c.self.invariant.1),
+  λ wrong. cc,
+  marks_sorted (marks c.self.inside.numbers.items) (marks c.remove_numbers_of.new.numbers.items) (λ n. not (n.store == c.args.store)) c.self.invariant.3 c.remove_numbers_of.ensures.removed,
+  omega (arith, c.remove_numbers_of.ensures.capacity, c.remove_numbers_of.ensures.len, c.self.invariant.4),
+  λ n. ap (λ ms. holds ms n) c.remove_numbers_of.ensures.removed ∙ agree_without (pairs c.self.inside.rows.items) (marks c.self.inside.numbers.items) c.args.store c.self.invariant.5 n ∙ ap (λ es. has es n) (sym c.remove_store.ensures.removed),
+)
 
 pub returns : goal.returns
 returns c =
