@@ -1,5 +1,5 @@
 -- The key of a number stands where the numbers of its store that aren't lower begin.
-use Rattle.std.proofs.Common.{◌≡◌, ℕ, zero, suc, ◌<◌, ◌≤◌, Bool, true, false, List, [], ◌∷◌, length, refl, sym, ap, ◌∙◌, subst, inl, inr, arith, get_or}
+use Rattle.std.proofs.Common.{◌≡◌, ℕ, zero, suc, ◌<◌, true, false, List, [], ◌∷◌, length, refl, sym, ap, ◌∙◌, subst, inl, inr, arith, get_or}
 use Rattle.std.specs.Prelude.{Option, Some, None, is_some, IfNone}
 use Rattle.std.specs.Global.{Box}
 use Rattle.std.specs.Cmp.{tied_itself}

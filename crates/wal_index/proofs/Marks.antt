@@ -1,5 +1,5 @@
 -- The numbers of the newest entries.
-use Rattle.std.proofs.Common.{◌≡◌, ℕ, Bool, true, false, cond, T, List, [], ◌∷◌, length, map, refl, filter, sym, ap, ◌∙◌, subst}
+use Rattle.std.proofs.Common.{◌≡◌, ℕ, Bool, true, false, cond, T, List, [], ◌∷◌, refl, filter, sym, ap, ◌∙◌, subst}
 use Rattle.std.specs.Prelude.{Option, Some, None, not, is_some, ◌==◌}
 use Rattle.std.specs.Option.{option_map_or}
 use Rattle.std.proofs.lemmas.Bool.{eqb-true, eqb-false}
@@ -13,7 +13,7 @@ use Rattle.std.specs.FinMap as finite
 use Rattle.std.specs.FinMap.Entries.{find-where_key, find-put, is_sorted-where_key, is_sorted-put}
 use Rattle.std.specs.Ordering.{is_eq}
 use Rattle.wal_index.specs.declared.by_number.Numbered.{Numbered}
-use Rattle.wal_index.specs.Numbers.{number_cmp, number_of, numbers_at, mark_of, marks, holds, has, Agree, without_older}
+use Rattle.wal_index.specs.Numbers.{number_cmp, numbers_at, mark_of, marks, holds, has, Agree, without_older}
 use Rattle.wal_index.specs.Index.{key_at}
 use Rattle.wal_index.proofs.Orders.{exact_numbers, numbers_total, exact_keys, keys_total}
 

@@ -1,12 +1,12 @@
 -- Where a binary search finds a key.
-use Rattle.std.proofs.Common.{◌≡◌, ℕ, zero, suc, ◌<◌, ◌≤◌, ◌+◌, T, List, length, map, refl, ap, subst, arith, get_or, ◌⊎◌, inl, inr}
+use Rattle.std.proofs.Common.{◌≡◌, ℕ, zero, suc, ◌<◌, ◌≤◌, T, List, length, map, refl, ap, subst, arith, get_or, ◌⊎◌, inl, inr}
 use Rattle.std.specs.Prelude.{Result, Ok, Err, IfOk, IfErr}
 use Rattle.std.specs.Cmp.{IsTotalOrder, tied_back}
 use Rattle.std.specs.FinMap as finite
 use Rattle.std.specs.List.Sorted.{IsBinarySearchResult, IsSearchInRange, IsNonDecreasingBy}
 use Rattle.std.specs.Ordering.{ordering_index}
 use Rattle.std.specs.declared.cmp.Ordering.{Ordering}
-use Rattle.wal_index.specs.Places.{IsAt, IsGap, IsBetween}
+use Rattle.wal_index.specs.Places.{IsAt, IsGap}
 use Rattle.wal_index.proofs.Sorted.{rising, below_too, turned_less, turned_greater, before_tied, behind_tied}
 
 pub le_cases : (i j : ℕ) → i ≤ j → (i < j) ⊎ (i ≡ j)

@@ -1,5 +1,5 @@
 -- Rows in the order of store and key.
-use Rattle.std.specs.Prelude.{◌≡◌, ℕ, Bool, true, false, ◌<◌, ◌≤◌, ◌+◌, List, length, map, slice_index_or, T, Option, Some, None, ◌==◌, if◌then◌else◌}
+use Rattle.std.specs.Prelude.{◌≡◌, ℕ, Bool, true, false, ◌<◌, ◌≤◌, List, length, map, slice_index_or, T, Option, Some, None, ◌==◌, if◌then◌else◌}
 use Rattle.std.specs.Global.{Box}
 use Rattle.std.specs.FinMap as finite
 use Rattle.forest_model.specs.Key.{key_cmp}

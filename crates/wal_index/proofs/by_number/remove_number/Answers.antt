@@ -1,4 +1,4 @@
-use Rattle.std.proofs.Common.{◌≡◌, List, ap, ◌∙◌, subst}
+use Rattle.std.proofs.Common.{List, ap, ◌∙◌, subst}
 use Rattle.std.specs.Global.{Box}
 use Rattle.wal_index.specs.declared.by_number.Numbered.{Numbered}
 use Rattle.wal_index.specs.Numbers.{number_cmp, number_of, numbers_at, mark_of, marks}

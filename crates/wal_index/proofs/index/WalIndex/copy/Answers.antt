@@ -1,4 +1,4 @@
-use Rattle.std.proofs.Common.{◌≡◌, T, List, rules, ap, sym, ◌∙◌, subst, arith}
+use Rattle.std.proofs.Common.{◌≡◌, T, List, rules, ap, sym, ◌∙◌, subst}
 use Rattle.std.specs.FinMap as finite
 use Rattle.forest_model.specs.Key.{key_cmp}
 use Rattle.forest_model.specs.declared.documents.DocKey.{DocKey}
@@ -6,7 +6,7 @@ use Rattle.forest_model.specs.declared.stored.Entry.{Entry}
 use Rattle.wal_index.specs.Index.{Index}
 use Rattle.wal_index.specs.declared.by_number.Numbered.{Numbered}
 use Rattle.wal_index.specs.Numbers.{number_cmp, marks, holds, has}
-use Rattle.wal_index.specs.Rows.{pairs, held}
+use Rattle.wal_index.specs.Rows.{held}
 use Rattle.wal_index.proofs.Maps.{same_pairs}
 use Rattle.wal_index.proofs.index.WalIndex.copy.Goals as goal
 

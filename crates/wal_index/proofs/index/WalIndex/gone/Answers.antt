@@ -1,7 +1,6 @@
-use Rattle.std.proofs.Common.{◌≡◌, true, false, List, [], ◌∷◌, ◌++◌, ℕ, ap, sym, ◌∙◌, arith}
+use Rattle.std.proofs.Common.{false, List, [], ◌∷◌, ◌++◌, ℕ, ap, sym, ◌∙◌, arith}
 use Rattle.std.specs.Prelude.{◌==◌, not, if◌then◌else◌}
 use Rattle.std.specs.FinMap as finite
-use Rattle.forest_model.specs.Key.{key_cmp}
 use Rattle.wal_index.specs.Index.{Index, Map, without_store}
 use Rattle.wal_index.specs.Rows.{pairs}
 use Rattle.wal_index.specs.Numbers.{marks, holds, has}

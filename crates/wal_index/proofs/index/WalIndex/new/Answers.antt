@@ -1,4 +1,4 @@
-use Rattle.std.proofs.Common.{List, [], ℕ, false, ap, ◌∙◌}
+use Rattle.std.proofs.Common.{List, ℕ, false, ap, ◌∙◌}
 use Rattle.std.specs.FinMap as finite
 use Rattle.wal_index.specs.Index.{Index, Map}
 use Rattle.wal_index.specs.Rows.{pairs}

@@ -1,4 +1,4 @@
-use Rattle.std.proofs.Common.{◌≡◌, true, false, Bool, List, ap, sym, ◌∙◌}
+use Rattle.std.proofs.Common.{true, false, Bool, List, ap, sym, ◌∙◌}
 use Rattle.std.specs.Option.{option_map}
 use Rattle.std.specs.FinMap as finite
 use Rattle.forest_model.specs.Key.{key_cmp}

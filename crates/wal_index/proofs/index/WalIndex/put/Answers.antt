@@ -1,6 +1,4 @@
-use Rattle.std.proofs.Common.{◌≡◌, ◌-◌, ap, sym, ◌∙◌, arith}
-use Rattle.std.specs.FinMap as finite
-use Rattle.forest_model.specs.Key.{key_cmp}
+use Rattle.std.proofs.Common.{◌-◌, ap, ◌∙◌, arith}
 use Rattle.wal_index.specs.Index.{Index, Map, key_at, with_entry}
 use Rattle.wal_index.specs.Rows.{pairs}
 use Rattle.wal_index.proofs.Maps.{put_sorted, put_map, row_put}
