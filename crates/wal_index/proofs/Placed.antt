@@ -1,0 +1,48 @@
+-- Where a binary search finds a key.
+use Rattle.std.proofs.Common.{◌≡◌, ℕ, zero, suc, ◌<◌, ◌≤◌, T, List, length, map, refl, ap, subst, arith, get_or, ◌⊎◌, inl, inr}
+use Rattle.std.specs.Prelude.{Result, Ok, Err, IfOk, IfErr}
+use Rattle.std.specs.Cmp.{IsTotalOrder, tied_back}
+use Rattle.std.specs.FinMap as finite
+use Rattle.std.specs.List.Sorted.{IsBinarySearchResult, IsSearchInRange, IsNonDecreasingBy}
+use Rattle.std.specs.Ordering.{ordering_index}
+use Rattle.std.specs.declared.cmp.Ordering.{Ordering}
+use Rattle.wal_index.specs.Places.{IsAt, IsGap}
+use Rattle.wal_index.proofs.Sorted.{rising, below_too, turned_less, turned_greater, before_tied, behind_tied}
+
+pub le_cases : (i j : ℕ) → i ≤ j → (i < j) ⊎ (i ≡ j)
+le_cases zero zero l = inr refl
+le_cases zero (suc j) l = inl (omega arith)
+le_cases (suc i) zero l = absurd (omega arith)
+le_cases (suc i) (suc j) l = elim (le_cases i j (omega arith)) [ inl h ↦ inl (omega arith) | inr e ↦ inr (ap suc e) ]
+
+module _ {K X A : Type 0} {R : K → K → Ordering} (o : IsTotalOrder R) (f : A → K × X) where
+  -- the answers of the search rise
+  rises : (q : K) (xs : List A) → T (finite.is_sorted R (map f xs)) → IsNonDecreasingBy (λ y. ordering_index (R (f y).0 q)) xs
+  rises q xs sorted i j d le within =
+      elim (le_cases i j le) [
+        | inl l ↦ below_too o _ _ q (rising R f xs sorted i j d l within) _ refl
+        | inr e ↦ subst (λ n. ordering_index (R (f (get_or xs i d)).0 q) ≤ ordering_index (R (f (get_or xs n d)).0 q)) e (omega arith)
+      ]
+
+  pub placed_at : (q : K) (xs : List A) (r : Result ℕ ℕ) → T (finite.is_sorted R (map f xs)) → IsSearchInRange r (length xs) → IsBinarySearchResult (λ y. R (f y).0 q) xs r → IfOk r (λ i. IsAt R (λ a. (f a).0) q xs i)
+  placed_at q xs (Ok i) sorted range found = record {
+    within = range;
+    here = λ d. tied_back o _ q (found d);
+    around = record {
+      before = λ j d l. before_tied o _ (f (get_or xs i d)).0 q (rising R f xs sorted j i d l range) (found d);
+      behind = λ j d l m. behind_tied o _ (f (get_or xs i d)).0 q (rising R f xs sorted i j d (omega arith) m) (found d);
+    };
+  }
+  placed_at q xs (Err i) sorted range found = tt
+
+  pub placed_gap : (q : K) (xs : List A) (r : Result ℕ ℕ) → T (finite.is_sorted R (map f xs)) → IsSearchInRange r (length xs) → IsBinarySearchResult (λ y. R (f y).0 q) xs r → IfErr r (λ i. IsGap R (λ a. (f a).0) q xs i)
+  placed_gap q xs (Ok i) sorted range found = tt
+  placed_gap q xs (Err i) sorted range found =
+      let parted = found (rises q xs sorted) in
+      record {
+        within = range;
+        around = record {
+          before = λ j d l. turned_less o _ q (parted.0 j d (omega arith) l);
+          behind = λ j d l m. turned_greater o _ q (parted.1 j d l m);
+        };
+      }

@@ -1,0 +1,4 @@
+pub mod Index
+pub mod Numbers
+pub mod Places
+pub mod Rows

@@ -1,0 +1,67 @@
+ghost use Rattle.std.specs.Prelude.{◌≡◌, IfOk, OnErr};
+ghost use Rattle.forest_model.specs.declared.refusal.Refusal.TheVariants as Refusal;
+ghost use Rattle.wal_index.specs.Numbers.{marks};
+ghost use Rattle.wal_index.specs.Rows.{held};
+
+use crate::by_key::Rows;
+use crate::by_number::{Numbered, Numbers};
+use forest_model::{KeyEntry, Refusal};
+use std::alloc::Global;
+
+fn copy_of(row: &KeyEntry) -> Result<KeyEntry, Refusal>
+    ensures copy { IfOk result (λ copy. copy ≡ row.now) }
+    ensures memory { OnErr result (result ≡ Err Refusal.NoMemory) }
+{
+    Ok(KeyEntry {
+        store: row.store,
+        key: row.key.clone()?,
+        entry: row.entry,
+    })
+}
+
+// A list of copies of the rows.
+pub(crate) fn list_of(alloc: Global, rows: &[Box<KeyEntry>]) -> Result<Vec<KeyEntry>, Refusal>
+    ensures list { IfOk result (λ list. list.items ≡ held rows.now) }
+    ensures memory { OnErr result (result ≡ Err Refusal.NoMemory) }
+{
+    let mut list = Vec::with_capacity(alloc, rows.len())?;
+    for row in rows {
+        list.push(copy_of(row)?)?;
+    }
+    Ok(list)
+}
+
+// Copies of the rows.
+pub(crate) fn rows_of(alloc: Global, rows: &[Box<KeyEntry>]) -> Result<Rows, Refusal>
+    ensures rows { IfOk result (λ copies. held copies.items ≡ held rows.now) }
+    ensures memory { OnErr result (result ≡ Err Refusal.NoMemory) }
+{
+    let mut copies = Vec::with_capacity(alloc, rows.len())?;
+    for row in rows {
+        copies.push(Box::new(alloc, copy_of(row)?)?)?;
+    }
+    Ok(copies)
+}
+
+// Copies of the numbers.
+pub(crate) fn numbers_of(alloc: Global, numbers: &[Box<Numbered>]) -> Result<Numbers, Refusal>
+    ensures numbers { IfOk result (λ copies. marks copies.items ≡ marks numbers.now) }
+    ensures memory { OnErr result (result ≡ Err Refusal.NoMemory) }
+{
+    let mut copies = Vec::with_capacity(alloc, numbers.len())?;
+    for number in numbers {
+        copies.push(Box::new(alloc, copy_of_number(number)?)?)?;
+    }
+    Ok(copies)
+}
+
+fn copy_of_number(number: &Numbered) -> Result<Numbered, Refusal>
+    ensures copy { IfOk result (λ copy. copy ≡ number.now) }
+    ensures memory { OnErr result (result ≡ Err Refusal.NoMemory) }
+{
+    Ok(Numbered {
+        store: number.store,
+        seq: number.seq,
+        key: number.key.clone()?,
+    })
+}

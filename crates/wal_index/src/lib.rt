@@ -1,0 +1,21 @@
+//! The memory index: the newest entry of each key since the last flush, and the stores that are gone.
+//!
+//! It promises that it is a finite map from store and key to entry, that it answers the nearest key of a store in both
+//! directions and the key of a number, and that want of memory leaves what it holds. `put` and `gone` can't fail: `room`
+//! and `reserve_gone` take their memory before. Reading by number in order, `next_seq`, is to come.
+#![tactic(auto)]
+
+mod both;
+mod by_key;
+mod by_number;
+mod copies;
+mod index;
+mod nearest;
+mod numbered;
+mod room;
+
+pub use index::WalIndex;
+pub use room::Room;
+
+#[cfg(test)]
+mod tests;
