@@ -21,8 +21,3 @@ pub use laws::one_spelling;
 pub use reading::line_of;
 pub use reply::reply_text;
 pub use writing::text_of;
-
-#[cfg(test)]
-mod line_tests;
-#[cfg(test)]
-mod reply_tests;

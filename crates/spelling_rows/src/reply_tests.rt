@@ -1,7 +1,7 @@
 ghost use Rattle.script_text.specs.Replies.{CanBeSaid};
 
-use super::*;
 use forest_model::{Bytes, Found, Info, Numbers, Refusal, Row, Rows, Said};
+use script_text::reply_text;
 use std::alloc::Global;
 use std::test::*;
 

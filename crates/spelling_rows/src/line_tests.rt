@@ -1,5 +1,5 @@
-use super::*;
 use forest_model::{Item, Line, Verb};
+use script_text::{line_of, text_of};
 use std::alloc::Global;
 use std::test::*;
 
