@@ -3,3 +3,5 @@ pub mod OpenBlock
 pub mod Bounds
 pub mod Runs
 pub mod Fold
+pub mod Reading
+pub mod Causes
