@@ -5,3 +5,4 @@ pub mod Runs
 pub mod Fold
 pub mod Reading
 pub mod Causes
+pub mod Writing
