@@ -1,0 +1,6 @@
+pub mod Inserted
+pub mod StoreRows
+pub mod SetCauses
+pub mod SetEntries
+pub mod SetBlocks
+pub mod SetStands
