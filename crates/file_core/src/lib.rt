@@ -6,7 +6,9 @@
 
 mod parts;
 mod reads;
+mod setting;
 mod state;
+mod writes;
 
 pub use parts::Parts;
 pub use state::{FileState, Layout};

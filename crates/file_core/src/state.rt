@@ -11,8 +11,6 @@ ghost use Rattle.wal_index.specs.Index.{entry_at};
 ghost use Rattle.file_core.specs.Held.{held};
 ghost use Rattle.file_core.specs.Reads.{ReadsAs};
 ghost use Rattle.file_core.specs.Stands.{Stands};
-ghost use Rattle.file_core.specs.Updates.{StandsAt, UpdatesAs, Aside, moment_of};
-ghost use Rattle.forest_model.specs.Blocks.{File};
 ghost use Rattle.forest_model.specs.declared.call.Reply.TheVariants as Reply;
 
 use crate::Parts;
@@ -44,7 +42,7 @@ pub struct Layout {
 /// An open file.
 pub struct FileState<H: Host> {
     pub parts: Parts<H>,
-    alloc: Global,
+    pub(crate) alloc: Global,
 }
 
 impl<H: Host> FileState<H> {
@@ -62,27 +60,6 @@ impl<H: Host> FileState<H> {
         ensures untroubled { OnOk result (H.View.faults self.new.parts.view ≡ H.View.faults self.old.parts.view) }
     {
         let _unused = (at.store, key.len());
-        Err(Refusal::NoMemory)
-    }
-
-    /// Sets a key, and answers the number that its document draws.
-    pub fn set(
-        &mut self,
-        at: &StoreRef,
-        key: &[u8],
-        meta: &[u8],
-        body: &[u8],
-    ) -> Result<u64, Refusal>
-        ensures updates { (s : State) (f : File) → StandsAt H.tells (moment_of (H.disk self.old.parts.host) (H.View.content self.old.parts.view) (H.faults self.old.parts.host) (H.View.faults self.old.parts.view) self.old.parts) s
-            → length f ≡ self.old.parts.blocks
-            → UpdatesAs H.tells Reply.Seq s f (Call.Set at.now key.now meta.now body.now)
-            (moment_of (H.disk self.old.parts.host) (H.View.content self.old.parts.view) (H.faults self.old.parts.host) (H.View.faults self.old.parts.view) self.old.parts)
-            (moment_of (H.disk self.new.parts.host) (H.View.content self.new.parts.view) (H.faults self.new.parts.host) (H.View.faults self.new.parts.view) self.new.parts)
-            result }
-        ensures stopped { (faults : ℕ) → self.old.parts.stopped ≡ Some faults → result ≡ Err (Refusal.Stopped faults) }
-        ensures aside { IsTrue H.tells → Aside self.old.parts.revision (H.disk self.old.parts.host) (H.disk self.new.parts.host) }
-    {
-        let _unused = (at.store, key.len(), meta.len(), body.len());
         Err(Refusal::NoMemory)
     }
 }

@@ -1,0 +1,292 @@
+ghost use Rattle.std.specs.Prelude.{◌≡◌, ◌≤◌, ◌<◌, ◌+◌, ◌^◌, ℕ, [], length, List, IsTrue, true, false, is_some, Some, None, Ok, Err, IfOk, OnOk, OnErr};
+ghost use Rattle.std.specs.FinMap as finite;
+ghost use Rattle.std.specs.Result.{result_err};
+ghost use Rattle.doc_stream.specs.OpenBlock.{PutsBytes, address_of};
+ghost use Rattle.doc_stream.specs.Records.{is_record, record_bytes};
+ghost use Rattle.forest_model.specs.Blocks.{File};
+ghost use Rattle.forest_model.specs.Documents.{key_at};
+ghost use Rattle.forest_model.specs.Limits as limits;
+ghost use Rattle.forest_model.specs.Step.{first_cause, record_length};
+ghost use Rattle.forest_model.specs.declared.call.Call.TheVariants as Call;
+ghost use Rattle.forest_model.specs.declared.call.Reply.TheVariants as Reply;
+ghost use Rattle.forest_model.specs.declared.refusal.Refusal.TheVariants as Refusal;
+ghost use Rattle.forest_model.specs.declared.state.State.{State};
+ghost use Rattle.kvs_names.specs.Table.{row_with_id, counted};
+ghost use Rattle.file_core.specs.Held.{held};
+ghost use Rattle.file_core.specs.Setting.{seq_in, documents_in, documents_after, live_after, set_causes, SetGives, SetAnswers};
+ghost use Rattle.file_core.specs.Updates.{StandsAt, UpdatesAs, Aside, moment_of};
+
+use crate::writes::{MOST_BLOCKS, grow, is_next_worn, is_over};
+use crate::{FileState, Parts};
+use block_host::{Block, Host};
+use doc_stream::{Tail, put_stands, puts_keep_records};
+use forest_model::{Bytes, Entry, Rec, Refusal, StoreRef};
+use model_laws::rules;
+use std::alloc::Global;
+use wal_index::{Room, WalIndex};
+
+impl<H: Host> FileState<H> {
+    /// Sets a key, and answers the number that its document draws.
+    pub fn set(
+        &mut self,
+        at: &StoreRef,
+        key: &[u8],
+        meta: &[u8],
+        body: &[u8],
+    ) -> Result<u64, Refusal>
+        ensures updates { (s : State) (f : File) → StandsAt H.tells (moment_of (H.disk self.old.parts.host) (H.View.content self.old.parts.view) (H.faults self.old.parts.host) (H.View.faults self.old.parts.view) self.old.parts) s
+            → length f ≡ self.old.parts.blocks
+            → UpdatesAs H.tells Reply.Seq s f (Call.Set at.now key.now meta.now body.now)
+            (moment_of (H.disk self.old.parts.host) (H.View.content self.old.parts.view) (H.faults self.old.parts.host) (H.View.faults self.old.parts.view) self.old.parts)
+            (moment_of (H.disk self.new.parts.host) (H.View.content self.new.parts.view) (H.faults self.new.parts.host) (H.View.faults self.new.parts.view) self.new.parts)
+            result }
+        ensures stopped { (faults : ℕ) → self.old.parts.stopped ≡ Some faults → result ≡ Err (Refusal.Stopped faults) }
+        ensures aside { IsTrue H.tells → Aside self.old.parts.revision (H.disk self.old.parts.host) (H.disk self.new.parts.host) }
+    {
+        rules();
+        put_stands();
+        puts_keep_records();
+        if let Some(faults) = self.parts.stopped {
+            return Err(Refusal::Stopped { faults });
+        }
+        set_in(self.alloc, &mut self.parts, at, key, meta, body)
+    }
+}
+
+// Sets a key of a file that hasn't stopped.
+fn set_in<H: Host>(
+    alloc: Global,
+    parts: &mut Parts<H>,
+    at: &StoreRef,
+    key: &[u8],
+    meta: &[u8],
+    body: &[u8],
+) -> Result<u64, Refusal>
+    ensures answers { SetAnswers H.tells at.now key.now meta.now body.now
+        (moment_of (H.disk parts.old.host) (H.View.content parts.old.view) (H.faults parts.old.host) (H.View.faults parts.old.view) parts.old)
+        (moment_of (H.disk parts.new.host) (H.View.content parts.new.view) (H.faults parts.new.host) (H.View.faults parts.new.view) parts.new)
+        result }
+    ensures aside { IsTrue H.tells → Aside parts.old.revision (H.disk parts.old.host) (H.disk parts.new.host) }
+{
+    let numbers = may_set(parts, at, key, meta, body)?;
+    set_free(alloc, parts, at, numbers, key, meta, body)
+}
+
+// The number of a store and its count of documents, where a key of it may be set.
+fn may_set<H: Host>(
+    parts: &Parts<H>,
+    at: &StoreRef,
+    key: &[u8],
+    meta: &[u8],
+    body: &[u8],
+) -> Result<(u64, u64), Refusal>
+    ensures refused { result_err result ≡ first_cause (set_causes (held parts.now) at.now key.now meta.now body.now) }
+    ensures seq { IfOk result (λ n. n.0 ≡ seq_in parts.now.names.rows at.now.store) }
+    ensures documents { IfOk result (λ n. n.1 ≡ documents_in parts.now.names.rows at.now.store) }
+{
+    if at.read_only {
+        return Err(Refusal::ReadOnly);
+    }
+    if is_wrong_key(key) {
+        return Err(Refusal::KeyLength);
+    }
+    if is_wrong_body(meta, body) {
+        return Err(Refusal::BodyLength);
+    }
+    let Some((seq, documents)) = parts.names.numbers(at.store) else {
+        return Err(Refusal::NoStore);
+    };
+    if is_next_worn(seq) || is_next_worn(parts.place) {
+        return Err(Refusal::Worn);
+    }
+    let needed = parts.tail.needed(record_len(key, meta, body));
+    if is_over(parts.blocks, needed + 2, parts.limits.max_blocks) {
+        return Err(Refusal::FileFull {
+            used: parts.blocks,
+            needed,
+            max: parts.limits.max_blocks,
+        });
+    }
+    Ok((seq, documents))
+}
+
+fn is_wrong_key(key: &[u8]) -> bool
+    ensures { result ≡ limits.is_wrong_key key.now }
+{
+    key.is_empty() || key.len() > 3500
+}
+
+fn is_wrong_body(meta: &[u8], body: &[u8]) -> bool
+    ensures { result ≡ limits.is_wrong_body meta.now body.now }
+{
+    meta.len() > 255 || body.len() > 1_048_576
+}
+
+// How many bytes a record has.
+fn record_len(key: &[u8], meta: &[u8], body: &[u8]) -> u64
+    requires key { limits.is_wrong_key key.now ≡ false }
+    requires body { limits.is_wrong_body meta.now body.now ≡ false }
+    ensures value { result ≡ record_length key.now meta.now body.now }
+    ensures small { result ≤ 2 ^ 21 }
+{
+    24 + key.len() as u64 + meta.len() as u64 + body.len() as u64
+}
+
+// Sets a key where nothing is against it.
+fn set_free<H: Host>(
+    alloc: Global,
+    parts: &mut Parts<H>,
+    at: &StoreRef,
+    numbers: (u64, u64),
+    key: &[u8],
+    meta: &[u8],
+    body: &[u8],
+) -> Result<u64, Refusal>
+    requires free { first_cause (set_causes (held parts.old) at.now key.now meta.now body.now) ≡ None }
+    requires seq { numbers.0 ≡ seq_in parts.old.names.rows at.now.store }
+    requires documents { numbers.1 ≡ documents_in parts.old.names.rows at.now.store }
+    ensures gives { SetGives H.tells at.now key.now meta.now body.now
+        (moment_of (H.disk parts.old.host) (H.View.content parts.old.view) (H.faults parts.old.host) (H.View.faults parts.old.view) parts.old)
+        (moment_of (H.disk parts.new.host) (H.View.content parts.new.view) (H.faults parts.new.host) (H.View.faults parts.new.view) parts.new)
+        result }
+    ensures aside { IsTrue H.tells → Aside parts.old.revision (H.disk parts.old.host) (H.disk parts.new.host) }
+{
+    let seq = numbers.0 + 1;
+    let len = record_len(key, meta, body);
+    let rec = record_of(alloc, at.store, seq, key, meta, body)?;
+    let Taken { room, out, address } = take(
+        alloc,
+        &mut parts.tail,
+        &mut parts.wal,
+        parts.revision,
+        rec,
+        len,
+    )?;
+    if grow(&mut parts.host, &mut parts.view, parts.revision, out.as_slice()).is_err() {
+        parts.stopped = Some(parts.host.faults());
+        return Err(Refusal::DiskFault);
+    }
+    let entry = Entry {
+        seq,
+        address,
+        live: true,
+        len,
+    };
+    enter(parts, at.store, key, room, entry, numbers.1);
+    Ok(seq)
+}
+
+// The record that sets a key.
+fn record_of(
+    alloc: Global,
+    store: u64,
+    seq: u64,
+    key: &[u8],
+    meta: &[u8],
+    body: &[u8],
+) -> Result<Rec, Refusal>
+    ensures record { IfOk result (λ rec. rec ≡ record { kind = 1; store = store; seq = seq; key = key.now; meta = meta.now; body = body.now }) }
+    ensures memory { OnErr result (result ≡ Err Refusal.NoMemory) }
+{
+    Ok(Rec {
+        kind: 1,
+        store,
+        seq,
+        key: Bytes::copy_of(alloc, key)?,
+        meta: Bytes::copy_of(alloc, meta)?,
+        body: Bytes::copy_of(alloc, body)?,
+    })
+}
+
+// What a record was put with: the memory of its entry, the blocks that filled, and its address.
+#[derive(Drop)]
+struct Taken {
+    room: Room,
+    out: Vec<Block>,
+    address: u64,
+}
+
+// Takes the memory for a record's entry and for the blocks that fill, and puts the record.
+fn take(
+    alloc: Global,
+    tail: &mut Tail,
+    wal: &mut WalIndex,
+    revision: u64,
+    rec: Rec,
+    len: u64,
+) -> Result<Taken, Refusal>
+    requires is_record { IsTrue (is_record rec) }
+    requires len { len ≡ length (record_bytes rec) }
+    requires small { len ≤ 2 ^ 21 }
+    ensures room { IfOk result (λ taken. taken.room ≡ rec.key) }
+    ensures address { IfOk result (λ taken. taken.address ≡ address_of tail.old.number (length tail.old.bytes)) }
+    ensures put { IfOk result (λ taken. PutsBytes revision (record_bytes rec) tail.old tail.new [] taken.out.items) }
+    ensures low { OnOk result (tail.new.number ≤ 2 ^ 32) }
+    ensures one { OnOk result (1 ≤ wal.new.room) }
+    ensures entries { wal.new.entries ≡ wal.old.entries }
+    ensures memory { OnErr result (result ≡ Err Refusal.NoMemory) }
+    ensures kept { OnErr result (tail.new ≡ tail.old) }
+{
+    if is_over(tail.number(), tail.needed(len), MOST_BLOCKS) {
+        return Err(Refusal::NoMemory);
+    }
+    let room = wal.room(rec.key.as_slice(), 1)?;
+    let mut out = Vec::new(alloc);
+    let address = tail.put(&rec, revision, &mut out)?;
+    Ok(Taken { room, out, address })
+}
+
+// Makes a document whose record was put known to the index, the table and the counts.
+fn enter<H: Host>(
+    parts: &mut Parts<H>,
+    store: u64,
+    key: &[u8],
+    room: Room,
+    entry: Entry,
+    documents: u64,
+)
+    requires there { is_some (row_with_id parts.old.names.rows store) ≡ true }
+    requires key { room ≡ key.now }
+    requires room { 1 ≤ parts.old.wal.room }
+    requires place { parts.old.place + 1 < 2 ^ 62 }
+    ensures entries { parts.new.wal.entries ≡ finite.insert parts.old.wal.entries (key_at store key.now) entry }
+    ensures rest { held parts.new ≡ record (held parts.old) {
+            blocks = parts.old.tail.number;
+            names = counted parts.old.names store entry.seq (documents_after (finite.get parts.old.wal.entries (key_at store key.now)) documents);
+            wal = parts.new.wal;
+            loose = length parts.old.tail.bytes;
+            live = live_after (finite.get parts.old.wal.entries (key_at store key.now)) parts.old.live entry.len;
+            place = parts.old.place + 1;
+        } }
+    ensures host { parts.new.host ≡ parts.old.host }
+    ensures view { parts.new.view ≡ parts.old.view }
+{
+    let older = parts.wal.get(store, key);
+    parts.live = live_with(older, parts.live, entry.len);
+    parts.names.count(store, entry.seq, documents_with(older, documents));
+    parts.wal.put(store, room, entry);
+    parts.blocks = parts.tail.number();
+    parts.loose = parts.tail.address() % 4096;
+    parts.place += 1;
+}
+
+// The bytes of live records, once a key with this older entry has a record of so many bytes.
+fn live_with(older: Option<Entry>, live: u64, len: u64) -> u64
+    ensures { result ≡ live_after older live len }
+{
+    let gone = match older {
+        Some(entry) if entry.live => entry.len,
+        _ => 0,
+    };
+    live.saturating_sub(gone).saturating_add(len)
+}
+
+// The count of documents of a store, once a key with this older entry has a document.
+fn documents_with(older: Option<Entry>, documents: u64) -> u64
+    ensures { result ≡ documents_after older documents }
+{
+    match older {
+        Some(entry) if entry.live => documents,
+        _ => documents.saturating_add(1),
+    }
+}

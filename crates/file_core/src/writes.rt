@@ -1,0 +1,44 @@
+ghost use Rattle.std.specs.Prelude.{◌≡◌, ◌+◌, ◌++◌, ◌≤◌, IsTrue, OnOk, OnErr, nat_lt};
+ghost use Rattle.block_host.specs.Disk.{risen};
+ghost use Rattle.forest_model.specs.Limits.{is_worn};
+ghost use Rattle.file_core.specs.Updates.{Aside};
+
+use block_host::{Block, Failed, Host};
+
+/// No file grows past so many blocks.
+pub(crate) const MOST_BLOCKS: u64 = 1 << 32;
+
+const FIRST_WORN: u64 = (1 << 62) - 1;
+
+// Whether the number behind this one may not be drawn any more.
+pub(crate) fn is_next_worn(number: u64) -> bool
+    ensures { result ≡ is_worn (number + 1) }
+{
+    number >= FIRST_WORN - 1
+}
+
+// Whether so many blocks and so many more are above a greatest number.
+pub(crate) fn is_over(blocks: u64, more: u64, max: u64) -> bool
+    ensures { result ≡ nat_lt max (blocks + more) }
+{
+    more > max || blocks > max - more
+}
+
+// Puts blocks at the end of a file and sets the view on it; without any, neither is asked.
+pub(crate) fn grow<H: Host>(
+    host: &mut H,
+    view: &mut H::View,
+    file: u64,
+    blocks: &[Block],
+) -> Result<(), Failed>
+    ensures files { IsTrue H.tells → OnOk result ((H.disk host.new).files file ≡ (H.disk host.old).files file ++ blocks.now) }
+    ensures shown { IsTrue H.tells → OnOk result (H.View.content view.old ≡ (H.disk host.old).files file → H.View.content view.new ≡ (H.disk host.new).files file) }
+    ensures aside { IsTrue H.tells → Aside file (H.disk host.old) (H.disk host.new) }
+    ensures failed { OnErr result (risen (H.faults host.old) ≤ H.faults host.new) }
+{
+    if blocks.is_empty() {
+        return Ok(());
+    }
+    host.append(file, blocks)?;
+    host.renew(file, view)
+}
