@@ -4,3 +4,4 @@ pub mod SetCauses
 pub mod SetEntries
 pub mod SetBlocks
 pub mod SetStands
+pub mod SetDone

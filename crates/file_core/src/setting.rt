@@ -16,9 +16,9 @@ ghost use Rattle.file_core.specs.Held.{held};
 ghost use Rattle.file_core.specs.Setting.{seq_in, documents_in, documents_after, live_after, set_causes, SetGives, SetAnswers};
 ghost use Rattle.file_core.specs.Updates.{StandsAt, UpdatesAs, Aside, moment_of};
 
-use crate::writes::{MOST_BLOCKS, grow, is_next_worn, is_over};
+use crate::writes::{MOST_BLOCKS, grow, is_full, is_next_worn, is_over};
 use crate::{FileState, Parts};
-use block_host::{Block, Host};
+use block_host::{Block, Failed, Host};
 use doc_stream::{Tail, put_stands, puts_keep_records};
 use forest_model::{Bytes, Entry, Rec, Refusal, StoreRef};
 use model_laws::rules;
@@ -100,7 +100,7 @@ fn may_set<H: Host>(
         return Err(Refusal::Worn);
     }
     let needed = parts.tail.needed(record_len(key, meta, body));
-    if is_over(parts.blocks, needed + 2, parts.limits.max_blocks) {
+    if is_full(parts.blocks, needed, parts.limits.max_blocks) {
         return Err(Refusal::FileFull {
             used: parts.blocks,
             needed,
@@ -162,18 +162,22 @@ fn set_free<H: Host>(
         rec,
         len,
     )?;
-    if grow(&mut parts.host, &mut parts.view, parts.revision, out.as_slice()).is_err() {
-        parts.stopped = Some(parts.host.faults());
-        return Err(Refusal::DiskFault);
-    }
     let entry = Entry {
         seq,
         address,
         live: true,
         len,
     };
-    enter(parts, at.store, key, room, entry, numbers.1);
-    Ok(seq)
+    match grow(&mut parts.host, &mut parts.view, parts.revision, out.as_slice()) {
+        Ok(()) => {
+            enter(parts, at.store, key, room, entry, numbers.1);
+            Ok(seq)
+        }
+        Err(Failed) => {
+            parts.stopped = Some(parts.host.faults());
+            Err(Refusal::DiskFault)
+        }
+    }
 }
 
 // The record that sets a key.
@@ -221,6 +225,7 @@ fn take(
     ensures room { IfOk result (λ taken. taken.room ≡ rec.key) }
     ensures address { IfOk result (λ taken. taken.address ≡ address_of tail.old.number (length tail.old.bytes)) }
     ensures put { IfOk result (λ taken. PutsBytes revision (record_bytes rec) tail.old tail.new [] taken.out.items) }
+    ensures is_record { OnOk result (IsTrue (is_record rec)) }
     ensures low { OnOk result (tail.new.number ≤ 2 ^ 32) }
     ensures one { OnOk result (1 ≤ wal.new.room) }
     ensures entries { wal.new.entries ≡ wal.old.entries }

@@ -24,6 +24,13 @@ pub(crate) fn is_over(blocks: u64, more: u64, max: u64) -> bool
     more > max || blocks > max - more
 }
 
+// Whether a file has too few blocks left for so many more: two are kept for the open block and the header of a commit.
+pub(crate) fn is_full(blocks: u64, needed: u64, max: u64) -> bool
+    ensures { result ≡ nat_lt max (blocks + needed + 2) }
+{
+    max < 2 || is_over(blocks, needed, max - 2)
+}
+
 // Puts blocks at the end of a file and sets the view on it; without any, neither is asked.
 pub(crate) fn grow<H: Host>(
     host: &mut H,
