@@ -30,13 +30,12 @@ pub entered : (p q : Held) (t : OpenBlock) (w : Index) (k : DocKey) (d : Doc) (o
       live = live_after (finite.get w.entries k) p.live e.len;
       place = p.place + 1;
     }
-    → documents ≡ documents_in p.names.rows k.store → PutsBytes p.revision (record_bytes (put_of k d)) p.tail t [] out → t.number ≤ 2 ^ 32 → IsTrue (is_record (put_of k d)) → Sets p q k d out
-entered p q t w k d out e documents w_is e_is inserted rest counts put low is =
+    → documents ≡ documents_in p.names.rows k.store → PutsBytes p.revision (record_bytes (put_of k d)) p.tail t [] out → IsTrue (is_record (put_of k d)) → Sets p q k d out
+entered p q t w k d out e documents w_is e_is inserted rest counts put is =
     let t_is : t ≡ q.tail = sym (ap (λ (h : Held). h.tail) rest) in
     record {
       is_record = is;
       put = subst (λ (x : OpenBlock). PutsBytes p.revision (record_bytes (put_of k d)) p.tail x [] out) t_is put;
-      low = subst (λ (x : OpenBlock). x.number ≤ 2 ^ 32) t_is low;
       entries = inserted ∙ (λ i. finite.insert (w_is i) k (e_is i));
       rest = rest ∙ (λ i. record p {
         tail = t_is i;

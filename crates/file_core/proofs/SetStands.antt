@@ -1,6 +1,7 @@
 -- The file stands for the state after a set.
 use Rattle.std.proofs.Common.{◌≡◌, ◌≢◌, ℕ, ◌+◌, ◌-◌, ◌*◌, ◌/◌, ◌%◌, ◌^◌, ◌≤◌, ◌<◌, Bool, true, false, cond, List, [], ◌∷◌, ◌++◌, length, map, Option, Some, None, Ok, Err, refl, sym, ap, subst, ◌∙◌, arith, inl, inr, length-append}
 use Rattle.std.specs.Prelude.{◌==◌, ◌⊎◌, min, IsTrue, is_none, is_some, nat_lt, MatchBool, MatchOption, MatchResult, IfOk, IfErr, OnOk, Result, if◌then◌else◌}
+use Rattle.std.specs.List.{list_all}
 use Rattle.std.specs.Option.{option_map_or}
 use Rattle.std.specs.FinMap as finite
 use Rattle.std.proofs.lemmas.Bool.{eq-eqb}
@@ -12,7 +13,7 @@ use Rattle.doc_stream.specs.OpenBlock.{OpenBlock, PutsBytes, address_of}
 use Rattle.doc_stream.specs.Reading.{RecordAt}
 use Rattle.doc_stream.specs.Records.{is_record, record_bytes}
 use Rattle.file_image.specs.Commits.{live_of, live_bytes}
-use Rattle.forest_model.specs.Blocks.{File}
+use Rattle.forest_model.specs.Blocks.{File, is_records}
 use Rattle.forest_model.specs.Documents.{Map, key_at, doc_of, count_of}
 use Rattle.forest_model.specs.Run.{FileAfter, AddsRecords, Grows}
 use Rattle.forest_model.specs.State.{IsState}
@@ -31,10 +32,10 @@ use Rattle.forest_model.specs.declared.state.State.{State}
 use Rattle.forest_model.specs.declared.state.Store.{Store}
 use Rattle.forest_model.specs.declared.stored.Entry.{Entry}
 use Rattle.forest_model.specs.declared.stored.Rec.{Rec}
-use Rattle.model_laws.specs.Laws.{RulesStay}
+use Rattle.model_laws.specs.Laws.{RulesStay, RecordsKeepHeader}
 use Rattle.file_core.specs.Held.{Held}
 use Rattle.file_core.specs.Stands.{Stands, AreDocuments, DrawNumbers, put_of}
-use Rattle.file_core.specs.Updates.{Moment, StandsAt, UpdatesAs, Troubled, bytes_of}
+use Rattle.file_core.specs.Updates.{Moment, StandsAt, IsFile, UpdatesAs, Troubled, bytes_of}
 use Rattle.file_core.specs.Setting.{seq_in, documents_in, set_causes, set_doc, is_live, documents_after, live_after, entry_of, full_cause, blocks_needed, Sets, SetsFile, OnlyMemory, SetGives, SetAnswers}
 use Rattle.file_core.proofs.Inserted.{part, live-part, live-insert, count-insert, count-other, count-live}
 use Rattle.file_core.proofs.StoreRows.{rows_counted}
@@ -142,7 +143,7 @@ module _ (rules : RulesStay) (keep : PutsKeep) (lands : PutStands) (told : Bool)
   live_now : live_after older old.held.live (record_length key meta body) ≡ live_bytes after.documents
   live_now =
       let gone = older_len told old.held.revision old.file old.held.tail k older (finite.get s.documents k) (stands.documents k) in
-      omega (arith, gone, bytes_are, sets.sets.low, new_short, live-part s.documents k, live-insert s.documents k d, stands.live, small)
+      omega (arith, gone, bytes_are, number_is, room, ap (λ l. l.max_blocks) stands.limits, stands.most, new_short, live-part s.documents k, live-insert s.documents k d, stands.live, small)
 
   pub set_stands : StandsAt told new after
   set_stands = subst (λ (h : Held). Stands told h new.disk new.file after) (sym sets.sets.rest) (record {
@@ -172,19 +173,34 @@ module _ (rules : RulesStay) (keep : PutsKeep) (lands : PutStands) (told : Bool)
     at_end = refl;
     size = λ t. omega (arith, ap length (grown t), length-append old.file sets.out, lengths.number, is_end t);
     room = inr (omega (arith, number_is, room, ap (λ l. l.max_blocks) stands.limits));
-    low = sets.sets.low;
+    low = omega (arith, number_is, room, ap (λ l. l.max_blocks) stands.limits, stands.most);
+    most = stands.most;
     within =
         let gone = older_len told old.held.revision old.file old.held.tail k older (finite.get s.documents k) (stands.documents k) in
         omega (arith, live_now, gone, bytes_are, live-insert s.documents k d, stands.live, stands.within);
   })
 
-  pub set_grows : IsTrue told → FileAfter s (bytes_of old.file) (Some (calls.Set at key meta body)) after (bytes_of new.file)
-  set_grows t = subst (λ (b : Bool). MatchBool b (Grows s (bytes_of old.file) (calls.Set at key meta body) (bytes_of new.file)) (bytes_of new.file ≡ bytes_of old.file)) (sym (eq-eqb (s.place + 1) (s.place + 1) refl)) (record {
+  -- the blocks of the file, with the record blocks behind them
+  records_are : IsTrue (list_all is_records (bytes_of sets.out))
+  records_are = put_records old.held.revision (record_bytes (put_of k d)) old.held.tail new.held.tail sets.out sets.sets.put
+
+  pub set_grows : FileAfter s f (Some (calls.Set at key meta body)) after (f ++ bytes_of sets.out)
+  set_grows = subst (λ (b : Bool). MatchBool b (Grows s f (calls.Set at key meta body) (f ++ bytes_of sets.out)) (f ++ bytes_of sets.out ≡ f)) (sym (eq-eqb (s.place + 1) (s.place + 1) refl)) (record {
     records = bytes_of sets.out;
-    all = ap bytes_of (grown t) ∙ bytes-append old.file sets.out;
+    all = refl;
     count = length-bytes_of sets.out ∙ lengths.count ∙ ap (λ n. (n + record_length key meta body) / 4064) stands.open_block;
-    kind = put_records old.held.revision (record_bytes (put_of k d)) old.held.tail new.held.tail sets.out sets.sets.put;
+    kind = records_are;
   })
+
+  pub set_file : RecordsKeepHeader → IsFile told old.held old.file f → IsFile told new.held new.file (f ++ bytes_of sets.out)
+  set_file headers was =
+      let kept = headers f (bytes_of sets.out) records_are in
+      subst (λ (h : Held). IsFile told h new.file (f ++ bytes_of sets.out)) (sym sets.sets.rest) (record {
+        shown = λ t. ap (λ (bs : File). bs ++ bytes_of sets.out) (was.shown t) ∙ sym (bytes-append old.file sets.out) ∙ ap bytes_of (sym (grown t));
+        long = omega (arith, length-append f (bytes_of sets.out), length-bytes_of sets.out, was.long, lengths.number, stands.at_end);
+        header = kept.0 ∙ was.header;
+        from = kept.1 ∙ was.from;
+      })
 
 -- ---- what a set answers
 
@@ -219,7 +235,16 @@ kept_stands told old new s stands same = subst (λ (h : Held). Stands told h new
   size = λ t. ap length same.file ∙ stands.size t;
   room = stands.room;
   low = stands.low;
+  most = stands.most;
   within = stands.within;
+})
+
+kept_file : (told : Bool) (old new : Moment) (f : File) → IsFile told old.held old.file f → OnlyMemory old new → IsFile told new.held new.file f
+kept_file told old new f was same = subst (λ (h : Held). IsFile told h new.file f) (sym same.held) (record {
+  shown = λ t. was.shown t ∙ ap bytes_of (sym same.file);
+  long = was.long;
+  header = was.header;
+  from = was.from;
 })
 
 no_refusal : (seq : ℕ) (why : Refusal) → replies.Seq seq ≢ replies.Refused why
@@ -228,44 +253,51 @@ no_refusal seq why e = cc
 same_refusal : (why other : Refusal) → replies.Refused why ≡ replies.Refused other → why ≡ other
 same_refusal why other e = cc
 
-pub set_updates : RulesStay → PutsKeep → PutStands → (told : Bool) (at : StoreRef) (key meta body : List ℕ) (old new : Moment) (result : Result ℕ Refusal) → SetAnswers told at key meta body old new result
-    → (s : State) (f : File) → StandsAt told old s → length f ≡ old.held.blocks → UpdatesAs told replies.Seq s f (calls.Set at key meta body) old new result
-set_updates rules keep lands told at key meta body old new result answers s f stands is_long = by (first_cause (set_causes old.held at key meta body)) refl answers where
+pub set_updates : RulesStay → RecordsKeepHeader → PutsKeep → PutStands → (told : Bool) (at : StoreRef) (key meta body : List ℕ) (old new : Moment) (result : Result ℕ Refusal)
+    → SetAnswers told at key meta body old new result → (s : State) (f : File) → StandsAt told old s → IsFile told old.held old.file f → UpdatesAs told replies.Seq s f (calls.Set at key meta body) old new result
+set_updates rules headers keep lands told at key meta body old new result answers s f stands was = by (first_cause (set_causes old.held at key meta body)) refl answers where
   refused : (why : Refusal) → first_cause (set_causes old.held at key meta body) ≡ Some why → result ≡ Err why → OnlyMemory old new → UpdatesAs told replies.Seq s f (calls.Set at key meta body) old new result
   refused why e is same =
-      let step = step_refused told old.held old.disk old.file s f at key meta body stands is_long why e in
-      record {
-        done = subst (λ (r : Result ℕ Refusal). IfOk r (λ value. ((step_of s f (calls.Set at key meta body)).0 ≡ replies.Seq value) × StandsAt told new (step_of s f (calls.Set at key meta body)).1)) (sym is) tt;
-        grows = λ t. subst (λ (r : Result ℕ Refusal). OnOk r (FileAfter s (bytes_of old.file) (Some (calls.Set at key meta body)) (step_of s f (calls.Set at key meta body)).1 (bytes_of new.file))) (sym is) tt;
-        refused = λ other h. is ∙ ap Err (same_refusal why other (sym (ap (λ (o : Outcome). o.0) step) ∙ h));
-        reason = subst (λ (r : Result ℕ Refusal). IfErr r (λ w. (((step_of s f (calls.Set at key meta body)).0 ≡ replies.Refused w) × StandsAt told new s) ⊎ ((w ≡ Refusal.NoMemory) × StandsAt told new s) ⊎ ((w ≡ Refusal.DiskFault) × Troubled old new))) (sym is)
-            (inl (ap (λ (o : Outcome). o.0) step, kept_stands told old new s stands same));
-      }
+      let step = step_refused told old.held old.disk old.file s f at key meta body stands was.long why e in
+      subst (λ (r : Result ℕ Refusal). UpdatesAs told replies.Seq s f (calls.Set at key meta body) old new r) (sym is) (record {
+        done = tt;
+        refused = λ other h. ap Err (same_refusal why other (sym (ap (λ (o : Outcome). o.0) step) ∙ h));
+        reason = inl (ap (λ (o : Outcome). o.0) step, kept_stands told old new s stands same, kept_file told old new f was same);
+      })
 
   given : (r : Result ℕ Refusal) → first_cause (set_causes old.held at key meta body) ≡ None → SetGives told at key meta body old new r → UpdatesAs told replies.Seq s f (calls.Set at key meta body) old new r
   given (Ok seq) free gives =
-      let step = step_answered told old.held old.disk old.file s f at key meta body stands is_long free in
-      let next : seq_in old.held.names.rows at.store ≡ seq_of s.stores at.store = seq_is told old.held old.disk old.file s f at key meta body stands is_long in
+      let step = step_answered told old.held old.disk old.file s f at key meta body stands was.long free in
+      let next : seq_in old.held.names.rows at.store ≡ seq_of s.stores at.store = seq_is told old.held old.disk old.file s f at key meta body stands was.long in
       let sets : SetsFile told (key_at at.store key) (doc_of (next_seq s at) meta body) old new =
       subst (λ (n : ℕ). SetsFile told (key_at at.store key) (doc_of (n + 1) meta body) old new) next gives.1 in
       let causes = none_holds (set_causes old.held at key meta body) free in
-      let gone : is_none (store_of s.stores at.store) ≡ false = sym (gone_is told old.held old.disk old.file s f at key meta body stands is_long) ∙ unmet _ _ causes.1.1.1.0 in
+      let gone : is_none (store_of s.stores at.store) ≡ false = sym (gone_is told old.held old.disk old.file s f at key meta body stands was.long) ∙ unmet _ _ causes.1.1.1.0 in
       let there = there_is (store_of s.stores at.store) gone in
       let room : old.held.blocks + blocks_needed old.held key meta body + 2 ≤ old.held.limits.max_blocks = has_room _ _ _ (unmet _ _ causes.1.1.1.1.1.0) in
       record {
-        done = (ap (λ (o : Outcome). o.0) step ∙ ap (λ n. replies.Seq (n + 1)) (sym next) ∙ ap replies.Seq (sym gives.0),
-          subst (λ (o : Outcome). StandsAt told new o.1) (sym step) (set_stands rules keep lands told at key meta body old new s f stands is_long there.0 there.1 room step sets));
-        grows = λ t. subst (λ (o : Outcome). FileAfter s (bytes_of old.file) (Some (calls.Set at key meta body)) o.1 (bytes_of new.file)) (sym step) (set_grows rules keep lands told at key meta body old new s f stands is_long there.0 there.1 room step sets t);
+        done = (
+          ap (λ (o : Outcome). o.0) step ∙ ap (λ n. replies.Seq (n + 1)) (sym next) ∙ ap replies.Seq (sym gives.0),
+          subst (λ (o : Outcome). StandsAt told new o.1) (sym step) (set_stands rules keep lands told at key meta body old new s f stands was.long there.0 there.1 room step sets),
+          f ++ bytes_of sets.out,
+          subst (λ (o : Outcome). FileAfter s f (Some (calls.Set at key meta body)) o.1 (f ++ bytes_of sets.out)) (sym step) (set_grows rules keep lands told at key meta body old new s f stands was.long there.0 there.1 room step sets),
+          set_file rules keep lands told at key meta body old new s f stands was.long there.0 there.1 room step sets headers was,
+        );
         refused = λ other h. absurd (no_refusal _ other (sym (ap (λ (o : Outcome). o.0) step) ∙ h));
         reason = tt;
       }
   given (Err why) free gives =
-      let step = step_answered told old.held old.disk old.file s f at key meta body stands is_long free in
+      let step = step_answered told old.held old.disk old.file s f at key meta body stands was.long free in
       record {
         done = tt;
-        grows = λ t. tt;
         refused = λ other h. absurd (no_refusal _ other (sym (ap (λ (o : Outcome). o.0) step) ∙ h));
-        reason = elim gives [ inl memory ↦ inr (inl (memory.0, kept_stands told old new s stands memory.1)) | inr fault ↦ inr (inr (fault.0, inl fault.1)) ];
+        reason = elim gives [
+          | inl memory ↦ inr (inl (memory.0, kept_stands told old new s stands memory.1, kept_file told old new f was memory.1))
+          | inr other ↦ elim other [
+            | inl fault ↦ inr (inr (fault.0, inl fault.1))
+            | inr far ↦ absurd (omega (arith, far, stands.at_end, stands.low))
+          ]
+        ];
       }
 
   by : (o : Option Refusal) → first_cause (set_causes old.held at key meta body) ≡ o → MatchOption o (SetGives told at key meta body old new result) (λ why. (result ≡ Err why) × OnlyMemory old new)

@@ -72,7 +72,6 @@ entry_of tail k d = record { seq = d.seq; address = address_of tail.number (leng
 pub record Sets (p q : Held) (k : DocKey) (d : Doc) (out : List Block) : Type 0 where
   pub is_record : IsTrue (is_record (put_of k d))
   pub put : PutsBytes p.revision (record_bytes (put_of k d)) p.tail q.tail [] out
-  pub low : q.tail.number ≤ 2 ^ 32
   pub entries : q.wal.entries ≡ finite.insert p.wal.entries k (entry_of p.tail k d)
   pub rest : q ≡ record p {
     blocks = q.tail.number;
@@ -102,7 +101,7 @@ pub record OnlyMemory (old new : Moment) : Type 0 where
 abbrev pub SetGives : Bool → StoreRef → List ℕ → List ℕ → List ℕ → Moment → Moment → Result ℕ Refusal → Type 0
 SetGives told at key meta body old new result = MatchResult result
     (λ seq. (seq ≡ seq_in old.held.names.rows at.store + 1) × SetsFile told (key_at at.store key) (set_doc old.held at meta body) old new)
-    (λ why. ((why ≡ NoMemory) × OnlyMemory old new) ⊎ ((why ≡ DiskFault) × (risen old.host_faults ≤ new.host_faults)))
+    (λ why. ((why ≡ NoMemory) × OnlyMemory old new) ⊎ ((why ≡ DiskFault) × (risen old.host_faults ≤ new.host_faults)) ⊎ (2 ^ 32 < old.held.tail.number))
 
 abbrev pub SetAnswers : Bool → StoreRef → List ℕ → List ℕ → List ℕ → Moment → Moment → Result ℕ Refusal → Type 0
 SetAnswers told at key meta body old new result = MatchOption (first_cause (set_causes old.held at key meta body))

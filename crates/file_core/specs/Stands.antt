@@ -91,5 +91,7 @@ pub record Stands (told : Bool) (p : Held) (disk : Disk) (file : List Block) (s 
   pub size : IsTrue told → length file ≡ p.blocks
   pub room : IsTrue (nothing_new s) ⊎ (p.blocks + 2 ≤ s.limits.max_blocks)
   pub low : p.blocks ≤ 2 ^ 32
+  -- limits are within their range
+  pub most : s.limits.max_blocks ≤ 2 ^ 32
   -- the documents' records are among the bytes put
   pub within : p.live ≤ p.blocks * 4064 + length p.tail.bytes

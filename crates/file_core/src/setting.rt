@@ -1,4 +1,4 @@
-ghost use Rattle.std.specs.Prelude.{◌≡◌, ◌≤◌, ◌<◌, ◌+◌, ◌^◌, ℕ, [], length, List, IsTrue, true, false, is_some, Some, None, Ok, Err, IfOk, OnOk, OnErr};
+ghost use Rattle.std.specs.Prelude.{◌≡◌, ◌⊎◌, ◌≤◌, ◌<◌, ◌+◌, ◌^◌, ℕ, [], length, List, IsTrue, true, false, is_some, Some, None, Ok, Err, IfOk, OnOk, OnErr};
 ghost use Rattle.std.specs.FinMap as finite;
 ghost use Rattle.std.specs.Result.{result_err};
 ghost use Rattle.doc_stream.specs.OpenBlock.{PutsBytes, address_of};
@@ -14,14 +14,14 @@ ghost use Rattle.forest_model.specs.declared.state.State.{State};
 ghost use Rattle.kvs_names.specs.Table.{row_with_id, counted};
 ghost use Rattle.file_core.specs.Held.{held};
 ghost use Rattle.file_core.specs.Setting.{seq_in, documents_in, documents_after, live_after, set_causes, SetGives, SetAnswers};
-ghost use Rattle.file_core.specs.Updates.{StandsAt, UpdatesAs, Aside, moment_of};
+ghost use Rattle.file_core.specs.Updates.{StandsAt, IsFile, UpdatesAs, Aside, moment_of};
 
-use crate::writes::{MOST_BLOCKS, grow, is_full, is_next_worn, is_over};
+use crate::writes::{MOST_BLOCKS, grow, is_full, is_next_worn};
 use crate::{FileState, Parts};
 use block_host::{Block, Failed, Host};
 use doc_stream::{Tail, put_stands, puts_keep_records};
 use forest_model::{Bytes, Entry, Rec, Refusal, StoreRef};
-use model_laws::rules;
+use model_laws::{record_blocks, rules};
 use std::alloc::Global;
 use wal_index::{Room, WalIndex};
 
@@ -35,7 +35,7 @@ impl<H: Host> FileState<H> {
         body: &[u8],
     ) -> Result<u64, Refusal>
         ensures updates { (s : State) (f : File) → StandsAt H.tells (moment_of (H.disk self.old.parts.host) (H.View.content self.old.parts.view) (H.faults self.old.parts.host) (H.View.faults self.old.parts.view) self.old.parts) s
-            → length f ≡ self.old.parts.blocks
+            → IsFile H.tells (held self.old.parts) (H.View.content self.old.parts.view) f
             → UpdatesAs H.tells Reply.Seq s f (Call.Set at.now key.now meta.now body.now)
             (moment_of (H.disk self.old.parts.host) (H.View.content self.old.parts.view) (H.faults self.old.parts.host) (H.View.faults self.old.parts.view) self.old.parts)
             (moment_of (H.disk self.new.parts.host) (H.View.content self.new.parts.view) (H.faults self.new.parts.host) (H.View.faults self.new.parts.view) self.new.parts)
@@ -44,6 +44,7 @@ impl<H: Host> FileState<H> {
         ensures aside { IsTrue H.tells → Aside self.old.parts.revision (H.disk self.old.parts.host) (H.disk self.new.parts.host) }
     {
         rules();
+        record_blocks();
         put_stands();
         puts_keep_records();
         if let Some(faults) = self.parts.stopped {
@@ -226,14 +227,17 @@ fn take(
     ensures address { IfOk result (λ taken. taken.address ≡ address_of tail.old.number (length tail.old.bytes)) }
     ensures put { IfOk result (λ taken. PutsBytes revision (record_bytes rec) tail.old tail.new [] taken.out.items) }
     ensures is_record { OnOk result (IsTrue (is_record rec)) }
-    ensures low { OnOk result (tail.new.number ≤ 2 ^ 32) }
     ensures one { OnOk result (1 ≤ wal.new.room) }
     ensures entries { wal.new.entries ≡ wal.old.entries }
-    ensures memory { OnErr result (result ≡ Err Refusal.NoMemory) }
+    ensures memory { OnErr result ((result ≡ Err Refusal.NoMemory) ⊎ (2 ^ 32 < tail.old.number)) }
     ensures kept { OnErr result (tail.new ≡ tail.old) }
 {
-    if is_over(tail.number(), tail.needed(len), MOST_BLOCKS) {
-        return Err(Refusal::NoMemory);
+    if tail.number() > MOST_BLOCKS {
+        return Err(Refusal::FileFull {
+            used: tail.number(),
+            needed: tail.needed(len),
+            max: MOST_BLOCKS,
+        });
     }
     let room = wal.room(rec.key.as_slice(), 1)?;
     let mut out = Vec::new(alloc);

@@ -5,7 +5,7 @@ ghost use Rattle.file_core.specs.Updates.{Aside};
 
 use block_host::{Block, Failed, Host};
 
-/// No file grows past so many blocks.
+/// No file has more blocks.
 pub(crate) const MOST_BLOCKS: u64 = 1 << 32;
 
 const FIRST_WORN: u64 = (1 << 62) - 1;
@@ -18,7 +18,7 @@ pub(crate) fn is_next_worn(number: u64) -> bool
 }
 
 // Whether so many blocks and so many more are above a greatest number.
-pub(crate) fn is_over(blocks: u64, more: u64, max: u64) -> bool
+fn is_over(blocks: u64, more: u64, max: u64) -> bool
     ensures { result ≡ nat_lt max (blocks + more) }
 {
     more > max || blocks > max - more

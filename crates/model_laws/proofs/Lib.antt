@@ -1,5 +1,6 @@
 pub mod Changes
 pub mod Commits
+pub mod Headers
 pub mod KeptDocuments
 pub mod KeptStores
 pub mod Keys

@@ -1,8 +1,10 @@
 -- What holds of every step of the sequential store, in words of its own.
 use Rattle.std.specs.Prelude.{◌≡◌, ◌≢◌, ℕ, ◌+◌, ◌<◌, ◌≤◌, ◌⊎◌, ◌↔◌, Bool, true, false, List, [], ◌∷◌, ◌++◌, IsTrue}
+use Rattle.std.specs.List.{list_all}
 use Rattle.forest_model.specs.Documents.{key_at, doc_of}
 use Rattle.forest_model.specs.State.{IsState, retained, durable_of, nothing_new}
-use Rattle.forest_model.specs.Blocks.{File}
+use Rattle.forest_model.specs.Blocks.{File, is_records, last_header}
+use Rattle.forest_model.specs.Run.{unflushed_from}
 use Rattle.forest_model.specs.Step.{step_of, found_of}
 use Rattle.forest_model.specs.declared.call.StoreRef.{StoreRef}
 use Rattle.forest_model.specs.declared.call.Call.{Call}
@@ -123,3 +125,8 @@ is_durable call = false
 
 abbrev pub DurableStays : Type 0
 DurableStays = (s : State) (file : File) (call : Call) → is_durable call ≡ false → durable_of (state_after s file call) ≡ durable_of s
+
+-- record blocks behind a file leave its last header, and the block from which its records aren't in trees
+abbrev pub RecordsKeepHeader : Type 0
+RecordsKeepHeader = (file more : File) → IsTrue (list_all is_records more)
+    → (last_header (file ++ more) ≡ last_header file) × (unflushed_from (file ++ more) ≡ unflushed_from file)

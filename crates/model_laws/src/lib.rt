@@ -4,7 +4,7 @@
 //! is proved here of the very definitions that the engine's contracts cite.
 #![tactic(auto)]
 
-ghost use Rattle.model_laws.specs.Laws.{RefusedLeaves, ReadsLeave, PlaceTells, RulesStay, SetIsGot, OthersStay, NothingNewMeans, RollbackReturns, DrawnStay, CommitDraws, BeginDraws, StoreDraws, SwitchKeeps, DurableStays};
+ghost use Rattle.model_laws.specs.Laws.{RefusedLeaves, ReadsLeave, PlaceTells, RulesStay, SetIsGot, OthersStay, NothingNewMeans, RollbackReturns, DrawnStay, CommitDraws, BeginDraws, StoreDraws, SwitchKeeps, DurableStays, RecordsKeepHeader};
 
 /// A refused call and a call that reads leave the state, and any other raises the place by one.
 pub fn refusals_and_reads()
@@ -50,4 +50,9 @@ pub fn switches()
 /// Only a commit, a rollback and a switch change what is durable.
 pub fn durable()
     ensures { DurableStays }
+{}
+
+/// Record blocks that are put behind a file leave its last header.
+pub fn record_blocks()
+    ensures { RecordsKeepHeader }
 {}
