@@ -1,4 +1,4 @@
-ghost use Rattle.std.specs.Prelude.{◌≡◌, ◌⊎◌, ◌≤◌, ◌<◌, ◌+◌, ◌^◌, ℕ, [], length, List, IsTrue, true, false, is_some, Some, None, Ok, Err, IfOk, OnOk, OnErr};
+ghost use Rattle.std.specs.Prelude.{◌≡◌, ◌≢◌, ◌⊎◌, ◌≤◌, ◌<◌, ◌+◌, ◌^◌, ℕ, [], length, List, IsTrue, true, false, is_some, Some, None, Ok, Err, IfOk, OnOk, OnErr};
 ghost use Rattle.std.specs.FinMap as finite;
 ghost use Rattle.std.specs.Result.{result_err};
 ghost use Rattle.doc_stream.specs.OpenBlock.{PutsBytes, address_of};
@@ -42,6 +42,10 @@ impl<H: Host> FileState<H> {
             result }
         ensures stopped { (faults : ℕ) → self.old.parts.stopped ≡ Some faults → result ≡ Err (Refusal.Stopped faults) }
         ensures aside { IsTrue H.tells → Aside self.old.parts.revision (H.disk self.old.parts.host) (H.disk self.new.parts.host) }
+        ensures halts { result ≡ Err Refusal.DiskFault → self.new.parts.stopped ≡ Some (H.faults self.new.parts.host) }
+        ensures counts { H.faults self.old.parts.host ≤ H.faults self.new.parts.host }
+        ensures untroubled { OnOk result (H.faults self.new.parts.host ≡ H.faults self.old.parts.host) }
+        ensures view_count { H.View.faults self.new.parts.view ≡ H.View.faults self.old.parts.view }
     {
         rules();
         record_blocks();
@@ -68,6 +72,10 @@ fn set_in<H: Host>(
         (moment_of (H.disk parts.new.host) (H.View.content parts.new.view) (H.faults parts.new.host) (H.View.faults parts.new.view) parts.new)
         result }
     ensures aside { IsTrue H.tells → Aside parts.old.revision (H.disk parts.old.host) (H.disk parts.new.host) }
+    ensures halts { result ≡ Err Refusal.DiskFault → parts.new.stopped ≡ Some (H.faults parts.new.host) }
+    ensures counts { H.faults parts.old.host ≤ H.faults parts.new.host }
+    ensures untroubled { OnOk result (H.faults parts.new.host ≡ H.faults parts.old.host) }
+    ensures view_count { H.View.faults parts.new.view ≡ H.View.faults parts.old.view }
 {
     let numbers = may_set(parts, at, key, meta, body)?;
     set_free(alloc, parts, at, numbers, key, meta, body)
@@ -84,6 +92,7 @@ fn may_set<H: Host>(
     ensures refused { result_err result ≡ first_cause (set_causes (held parts.now) at.now key.now meta.now body.now) }
     ensures seq { IfOk result (λ n. n.0 ≡ seq_in parts.now.names.rows at.now.store) }
     ensures documents { IfOk result (λ n. n.1 ≡ documents_in parts.now.names.rows at.now.store) }
+    ensures no_fault { result ≢ Err Refusal.DiskFault }
 {
     if at.read_only {
         return Err(Refusal::ReadOnly);
@@ -151,6 +160,10 @@ fn set_free<H: Host>(
         (moment_of (H.disk parts.new.host) (H.View.content parts.new.view) (H.faults parts.new.host) (H.View.faults parts.new.view) parts.new)
         result }
     ensures aside { IsTrue H.tells → Aside parts.old.revision (H.disk parts.old.host) (H.disk parts.new.host) }
+    ensures halts { result ≡ Err Refusal.DiskFault → parts.new.stopped ≡ Some (H.faults parts.new.host) }
+    ensures counts { H.faults parts.old.host ≤ H.faults parts.new.host }
+    ensures untroubled { OnOk result (H.faults parts.new.host ≡ H.faults parts.old.host) }
+    ensures view_count { H.View.faults parts.new.view ≡ H.View.faults parts.old.view }
 {
     let seq = numbers.0 + 1;
     let len = record_len(key, meta, body);
@@ -230,6 +243,7 @@ fn take(
     ensures one { OnOk result (1 ≤ wal.new.room) }
     ensures entries { wal.new.entries ≡ wal.old.entries }
     ensures memory { OnErr result ((result ≡ Err Refusal.NoMemory) ⊎ (2 ^ 32 < tail.old.number)) }
+    ensures no_fault { result ≢ Err Refusal.DiskFault }
     ensures kept { OnErr result (tail.new ≡ tail.old) }
 {
     if tail.number() > MOST_BLOCKS {
