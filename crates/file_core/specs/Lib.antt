@@ -1,4 +1,5 @@
 pub mod Held
 pub mod Stands
 pub mod Reads
+pub mod Lookup
 pub mod Updates
