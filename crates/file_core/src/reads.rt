@@ -6,7 +6,7 @@ ghost use Rattle.file_core.specs.Lookup.{stop_of, living, entry_of_key, LooksUpN
 use crate::Parts;
 use block_host::{Host, View};
 use doc_stream::{Tail, read};
-use forest_model::{Entry, Found, Info, Refusal, StoreRef};
+use forest_model::{Entry, Found, Info, Rec, Refusal, StoreRef};
 use std::alloc::Global;
 
 // Whether the key hasn't 1 to 3,500 bytes.
@@ -97,11 +97,13 @@ pub(crate) fn find_record<V: View>(
     ensures counts { V.faults view.old ≤ V.faults view.new }
     ensures untroubled { OnOk result (V.faults view.new ≡ V.faults view.old) }
 {
-    let record = read(alloc, view, tail, revision, entry.address)?;
+    let Rec {
+        key, meta, body, ..
+    } = read(alloc, view, tail, revision, entry.address)?;
     Ok(Found {
         seq: entry.seq,
-        key: record.key,
-        meta: record.meta,
-        body: record.body,
+        key,
+        meta,
+        body,
     })
 }

@@ -1,0 +1,4 @@
+pub mod Numbered
+pub mod Lookups
+pub mod Standing
+pub mod Answering
