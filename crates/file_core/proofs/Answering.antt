@@ -15,8 +15,10 @@ use Rattle.forest_model.specs.declared.call.StoreRef.{StoreRef}
 use Rattle.forest_model.specs.declared.documents.DocKey.{DocKey}
 use Rattle.forest_model.specs.declared.documents.Doc.{Doc}
 use Rattle.forest_model.specs.declared.refusal.Refusal.{Refusal}
+use Rattle.forest_model.specs.declared.refusal.Refusal.TheVariants.{NoMemory, DiskFault}
 use Rattle.forest_model.specs.declared.state.State.{State}
 use Rattle.forest_model.specs.declared.stored.Entry.{Entry}
+use Rattle.forest_model.specs.declared.stored.Rec.{Rec}
 use Rattle.wal_index.specs.Index.{key_at}
 use Rattle.file_core.specs.Held.{Held}
 use Rattle.file_core.specs.Lookup.{entry_of_key, LooksUpNumber, found_in, FindsRecord}
@@ -24,13 +26,13 @@ use Rattle.file_core.specs.Reads.{ReadFails, ReadsAs}
 use Rattle.file_core.specs.Stands.{put_of, IsKept, Stands}
 use Rattle.file_core.proofs.Standing.{KeyAnswers, key_answers, number_refused, number_found, number_absent}
 
-refuses : (told : Bool) (s : State) (call : Call) (revision before after : ℕ) (why : Refusal) → step_with_room s call ≡ (Refused why, s) → ReadsAs told s call revision before after (Err why)
-refuses told s call revision before after why step = record {
+refuses : (told : Bool) (s : State) (call : Call) (revision before after : ℕ) (why : Refusal) (result : Result Found Refusal) → result ≡ Err why → step_with_room s call ≡ (Refused why, s) → ReadsAs told s call revision before after result
+refuses told s call revision before after why result is step = subst (ReadsAs told s call revision before after) (sym is) (record {
   found = tt;
   there = tt;
-  refused = λ other is. (let same : Refused why ≡ Refused other = ap (λ x. x.0) (sym step ∙ is) in cc);
+  refused = λ other refused. (let same : Refused why ≡ Refused other = ap (λ x. x.0) (sym step ∙ refused) in cc);
   reason = inl step;
-}
+})
 
 -- what is found and what the step says differ in no way
 not_refused : (s : State) (call : Call) (found : Found) (why : Refusal) → step_with_room s call ≡ (Document found, s) → step_with_room s call ≡ (Refused why, s) → ⊥
@@ -64,9 +66,9 @@ module _ (told tells : Bool) (views : IsTrue told → IsTrue tells) (s : State) 
   }
 
 module _ (told : Bool) (p : Held) (disk : Disk) (file : List Block) (s : State) (stands : Stands told p disk file s) (at : StoreRef) (before after : ℕ) where
-  pub key_refused : (key : List ℕ) (why : Refusal) → entry_of_key p at key ≡ Err why → ReadsAs told s (Call.Get at key) p.revision before after (Err why)
-  key_refused key why is =
-      refuses told s (Call.Get at key) p.revision before after why
+  pub key_refused : (key : List ℕ) (why : Refusal) (result : Result Found Refusal) → entry_of_key p at key ≡ Err why → result ≡ Err why → ReadsAs told s (Call.Get at key) p.revision before after result
+  key_refused key why result is answers =
+      refuses told s (Call.Get at key) p.revision before after why result answers
         (subst (KeyAnswers told p.revision file p.tail (key_at at.store key) s (step_with_room s (Call.Get at key))) is (key_answers told p disk file s at key stands))
 
   pub key_found : (tells : Bool) → (IsTrue told → IsTrue tells) → (key : List ℕ) (e : Entry) (result : Result Found Refusal) → entry_of_key p at key ≡ Ok e → FindsRecord tells p.revision file p.tail e before after result
@@ -75,9 +77,9 @@ module _ (told : Bool) (p : Held) (disk : Disk) (file : List Block) (s : State) 
       let answer = subst (KeyAnswers told p.revision file p.tail (key_at at.store key) s (step_with_room s (Call.Get at key))) is (key_answers told p disk file s at key stands) in
       document_read told tells views s (Call.Get at key) (key_at at.store key) e answer.0 p.revision before after file p.tail answer.1 answer.2 result finds
 
-  pub number_refused_as : (seq : ℕ) (why : Refusal) → LooksUpNumber p at seq (Err why) → ReadsAs told s (Call.BySeq at seq) p.revision before after (Err why)
-  number_refused_as seq why looked =
-      refuses told s (Call.BySeq at seq) p.revision before after why (elim looked.refused [
+  pub number_refused_as : (seq : ℕ) (why : Refusal) (result : Result Found Refusal) → LooksUpNumber p at seq (Err why) → result ≡ Err why → ReadsAs told s (Call.BySeq at seq) p.revision before after result
+  number_refused_as seq why result looked answers =
+      refuses told s (Call.BySeq at seq) p.revision before after why result answers (elim looked.refused [
         | inl refused ↦ number_refused told p disk file s stands at seq why refused
         | inr absent ↦ number_absent told p disk file s stands at seq absent.0 absent.2 ∙ ap (λ w. (Refused w, s)) (sym absent.1)
       ])
@@ -88,3 +90,10 @@ module _ (told : Bool) (p : Held) (disk : Disk) (file : List Block) (s : State) 
       let there = looked.found in
       let answer = number_found told p disk file s stands at seq there.2 e there.0 there.1 there.3 in
       document_read told tells views s (Call.BySeq at seq) (key_at at.store there.2) e answer.0 p.revision before after file p.tail answer.1 answer.2 result finds
+
+-- the record read is the one that stands at the address
+pub same_found : (e : Entry) (a r : Rec) → (◌≡◌ {A = Result Rec Refusal} (Ok a) (Ok r)) ⊎ (◌≡◌ {A = Result Rec Refusal} (Ok a) (Err NoMemory)) ⊎ (◌≡◌ {A = Result Rec Refusal} (Ok a) (Err DiskFault)) → found_in e a ≡ found_in e r
+same_found e a r which = elim which [
+  | inl same ↦ (let is : a ≡ r = cc in ap (found_in e) is)
+  | inr other ↦ elim other [ inl memory ↦ cc | inr fault ↦ cc ]
+]

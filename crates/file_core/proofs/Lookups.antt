@@ -1,6 +1,6 @@
 -- What is looked up in memory, step by step.
 use Rattle.std.proofs.Common.{◌≡◌, ◌≢◌, ◌⊎◌, ℕ, Bool, true, false, List, [], ◌∷◌, refl, sym, ap, ◌∙◌, inl, inr}
-use Rattle.std.specs.Prelude.{Option, Some, None, Result, Ok, Err, is_none, IfOk, IfErr, if◌then◌else◌, ◌==◌}
+use Rattle.std.specs.Prelude.{Option, Some, None, Result, Ok, Err, is_none, is_some, not, IfOk, IfErr, if◌then◌else◌, ◌==◌}
 use Rattle.std.specs.Option.{option_map_or}
 use Rattle.std.proofs.lemmas.Bool.{eqb-true}
 use Rattle.forest_model.specs.Limits.{is_wrong_key}
@@ -12,6 +12,13 @@ use Rattle.forest_model.specs.declared.stored.Entry.{Entry}
 use Rattle.wal_index.specs.Index.{Map as Entries, entry_at, has_number}
 use Rattle.file_core.specs.Held.{Held}
 use Rattle.file_core.specs.Lookup.{stop_of, unless_refused, numbers_in, why_no_store, why_no_key, living, entry_of_key, IsNumbered, NoneLives, LooksUpNumber}
+
+-- a test for nothing
+pub none_is : {A : Type 0} (o : Option A) (b : Bool) → is_some o ≡ not b → is_none o ≡ b
+none_is None true is = refl
+none_is None false is = cc
+none_is (Some x) true is = cc
+none_is (Some x) false is = refl
 
 module _ (p : Held) (at : StoreRef) where
   pub stopped_store : (faults : ℕ) → p.stopped ≡ Some faults → why_no_store p at ≡ Some (Stopped faults)
@@ -25,17 +32,20 @@ module _ (p : Held) (at : StoreRef) where
   stopped_key key faults is =
       ap (λ o. first_cause (stop_of o ∷ (KeyLength where_holds is_wrong_key key) ∷ (NoStore where_holds is_none (numbers_in p at.store)) ∷ [])) is
 
-  pub running_key : (key : List ℕ) (a : Bool) → p.stopped ≡ None → is_wrong_key key ≡ a
-      → why_no_key p at key ≡ first_cause ((KeyLength where_holds a) ∷ (NoStore where_holds is_none (numbers_in p at.store)) ∷ [])
-  running_key key a runs long =
+  pub running_key : (key : List ℕ) (a b : Bool) → p.stopped ≡ None → is_wrong_key key ≡ a → is_none (numbers_in p at.store) ≡ b → why_no_key p at key ≡ first_cause ((KeyLength where_holds a) ∷ (NoStore where_holds b) ∷ [])
+  running_key key a b runs long none =
       ap (λ o. first_cause (stop_of o ∷ (KeyLength where_holds is_wrong_key key) ∷ (NoStore where_holds is_none (numbers_in p at.store)) ∷ [])) runs
       ∙ ap (λ t. first_cause ((KeyLength where_holds t) ∷ (NoStore where_holds is_none (numbers_in p at.store)) ∷ [])) long
+      ∙ ap (λ t. first_cause ((KeyLength where_holds a) ∷ (NoStore where_holds t) ∷ [])) none
 
   pub key_refused : (key : List ℕ) (why : Refusal) → why_no_key p at key ≡ Some why → entry_of_key p at key ≡ Err why
   key_refused key why is = ap (λ o. unless_refused o (living (entry_at p.wal.entries at.store key))) is
 
-  pub key_looked_up : (key : List ℕ) → why_no_key p at key ≡ None → entry_of_key p at key ≡ living (entry_at p.wal.entries at.store key)
+  key_looked_up : (key : List ℕ) → why_no_key p at key ≡ None → entry_of_key p at key ≡ living (entry_at p.wal.entries at.store key)
   key_looked_up key none = ap (λ o. unless_refused o (living (entry_at p.wal.entries at.store key))) none
+
+  pub key_living : (key : List ℕ) (entry : Option Entry) (result : Result Entry Refusal) → why_no_key p at key ≡ None → entry ≡ entry_at p.wal.entries at.store key → result ≡ living entry → result ≡ entry_of_key p at key
+  key_living key entry result none is lives = lives ∙ ap living is ∙ sym (key_looked_up key none)
 
   pub number_refused : (seq : ℕ) (why : Refusal) → why_no_store p at ≡ Some why → LooksUpNumber p at seq (Err why)
   number_refused seq why is = record { found = tt; refused = inl is }

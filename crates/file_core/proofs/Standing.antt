@@ -222,3 +222,11 @@ pub info_answers : (told : Bool) (p : Held) (disk : Disk) (file : List Block) (s
 info_answers told p disk file s at stands =
     subst (λ ns. InfoAnswers s (step_with_room s (Call.Info at)) (unless_refused (stop_of p.stopped) (option_map_or (λ numbers. Ok (info_with p numbers)) ns (Err NoStore)))) (sym (numbers_are s.documents p s.stores at.store stands.rows))
       (info_cases s p at.store p.stopped (store_of s.stores at.store) stands.running (λ st is. eqb-true st.id at.store (passes (λ st. st.id == at.store) s.stores st is)) stands.commit (ap ticket_in stands.copying ∙ same_ticket s.copying))
+
+pub answered_ok : (s : State) (outcome : Outcome) (result : Result Info Refusal) → InfoAnswers s outcome result → IfOk result (λ info. outcome ≡ (InfoIs info, s))
+answered_ok s outcome (Ok info) answers = answers
+answered_ok s outcome (Err why) answers = tt
+
+pub answered_err : (s : State) (outcome : Outcome) (result : Result Info Refusal) → InfoAnswers s outcome result → IfErr result (λ why. outcome ≡ (Refused why, s))
+answered_err s outcome (Ok info) answers = tt
+answered_err s outcome (Err why) answers = answers

@@ -1,18 +1,37 @@
-use Rattle.std.proofs.Common.{◌≡◌, true, false, sym, ap, ◌∙◌}
-use Rattle.std.specs.Prelude.{None, is_none}
+use Rattle.std.proofs.Common.{◌≡◌, true, false, refl, sym, ap, ◌∙◌}
+use Rattle.std.specs.Prelude.{is_none}
+use Rattle.forest_model.specs.declared.refusal.Refusal.TheVariants.{KeyLength, NoStore, Stopped}
 use Rattle.file_core.specs.Held.{held}
-use Rattle.file_core.specs.Lookup.{living}
-use Rattle.file_core.proofs.Lookups.{stopped_key, running_key, key_refused, key_looked_up}
+use Rattle.file_core.specs.Lookup.{numbers_in}
+use Rattle.file_core.proofs.Lookups.{none_is, stopped_key, running_key, key_refused, key_living}
 use Rattle.file_core.proofs.reads.entry_of_key.Goals as goal
 
 pub returns-in-Some : goal.returns-in-Some
-returns-in-Some g c = ?
+returns-in-Some g c =
+    let p = held c.args.parts.now in
+    let at = c.args.at.now in
+    let key = c.args.key.now in
+    sym (key_refused p at key (Stopped c.in-Some.faults) (stopped_key p at key c.in-Some.faults c.in-Some.is))
 
 pub returns-then-is_wrong_key : goal.returns-then-is_wrong_key
-returns-then-is_wrong_key g c = let a = c.in_default.not-Some in let b = c.in_default.is in let d = c.if-is_wrong_key.true in ?
+returns-then-is_wrong_key g c =
+    let p = held c.args.parts.now in
+    let at = c.args.at.now in
+    let key = c.args.key.now in
+    sym (key_refused p at key KeyLength (running_key p at key true (is_none (numbers_in p at.store)) c.in_default.is (sym c.is_wrong_key.ensures ∙ c.if-is_wrong_key.true) refl))
 
 pub returns-then-is_none : goal.returns-then-is_none
-returns-then-is_none g c = let a = c.if-is_wrong_key.false in let b = c.if-is_none.true in let d = c.is_none.ensures in let e = c.numbers.ensures in ?
+returns-then-is_none g c =
+    let p = held c.args.parts.now in
+    let at = c.args.at.now in
+    let key = c.args.key.now in
+    let none = ap is_none (sym c.numbers.ensures) ∙ none_is c.numbers.result c.is_none.result c.is_none.ensures ∙ c.if-is_none.true in
+    sym (key_refused p at key NoStore (running_key p at key false true c.in_default.is (sym c.is_wrong_key.ensures ∙ c.if-is_wrong_key.false) none))
 
 pub returns : goal.returns
-returns g c = let a = c.if-is_none.false in ?
+returns g c =
+    let p = held c.args.parts.now in
+    let at = c.args.at.now in
+    let key = c.args.key.now in
+    let there = ap is_none (sym c.numbers.ensures) ∙ none_is c.numbers.result c.is_none.result c.is_none.ensures ∙ c.if-is_none.false in
+    key_living p at key c.get.result c.living.result (running_key p at key false false c.in_default.is (sym c.is_wrong_key.ensures ∙ c.if-is_wrong_key.false) there) c.get.ensures c.living.ensures
