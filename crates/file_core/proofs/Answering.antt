@@ -51,7 +51,7 @@ module _ (told tells : Bool) (views : IsTrue told → IsTrue tells) (s : State) 
   pub document_read : (result : Result Found Refusal) → FindsRecord tells revision file tail e before after result → ReadsAs told s call revision before after result
   document_read (Ok found) finds =
       let same : IsTrue told → found ≡ found_of k.key d = λ t.
-        finds.exact (views t) (put_of k d) (kept.there t) ∙ ap (λ n. record { seq = n; key = k.key; meta = d.meta; body = d.body }) kept.seq in
+      finds.exact (views t) (put_of k d) (kept.there t) ∙ ap (λ n. record { seq = n; key = k.key; meta = d.meta; body = d.body }) kept.seq in
       record {
         found = λ t. step ∙ ap (λ f. (Document f, s)) (sym (same t));
         there = (found_of k.key d, step, finds.number ∙ kept.seq);
@@ -69,7 +69,7 @@ module _ (told : Bool) (p : Held) (disk : Disk) (file : List Block) (s : State) 
   pub key_refused : (key : List ℕ) (why : Refusal) (result : Result Found Refusal) → entry_of_key p at key ≡ Err why → result ≡ Err why → ReadsAs told s (Call.Get at key) p.revision before after result
   key_refused key why result is answers =
       refuses told s (Call.Get at key) p.revision before after why result answers
-        (subst (KeyAnswers told p.revision file p.tail (key_at at.store key) s (step_with_room s (Call.Get at key))) is (key_answers told p disk file s at key stands))
+      (subst (KeyAnswers told p.revision file p.tail (key_at at.store key) s (step_with_room s (Call.Get at key))) is (key_answers told p disk file s at key stands))
 
   pub key_found : (tells : Bool) → (IsTrue told → IsTrue tells) → (key : List ℕ) (e : Entry) (result : Result Found Refusal) → entry_of_key p at key ≡ Ok e → FindsRecord tells p.revision file p.tail e before after result
       → ReadsAs told s (Call.Get at key) p.revision before after result

@@ -84,8 +84,7 @@ module _ {K X : Type 0} {R : K → K → Ordering} (o : IsTotalOrder R) where
 -- a document that is found by its number is there
 pub numbered_is : (m : Map) (store seq : ℕ) (e : Entry) → doc_numbered m store seq ≡ Some e → (finite.get m e.0 ≡ Some e.1) × (e.0.store ≡ store) × (e.1.seq ≡ seq)
 numbered_is m store seq e is =
-    let tests = both_true (e.0.store == store) (e.1.seq == seq) (passes (is_numbered store seq) (finite.entries m) e is) in
-    (
+    let tests = both_true (e.0.store == store) (e.1.seq == seq) (passes (is_numbered store seq) (finite.entries m) e is) in (
       finite.get-entries m e.0 ∙ is_found keys_total (is_numbered store seq) (finite.entries m) e (finite.entries_sorted m) is,
       eqb-true e.0.store store tests.0,
       eqb-true e.1.seq seq tests.1,

@@ -79,7 +79,7 @@ module _ (told : Bool) (revision : ℕ) (file : List Block) (tail : OpenBlock) (
   entry_of None doc d is has = cc
   entry_of (Some e) doc d is has =
       elim e.live as (λ b. e.live ≡ b → MatchBool b ((d : Doc) × (doc ≡ Some d) × IsKept told revision file tail k e d) (doc ≡ None)
-          → (f : Entry) × (Some e ≡ Some f) × (f.live ≡ true) × IsKept told revision file tail k f d) [
+      → (f : Entry) × (Some e ≡ Some f) × (f.live ≡ true) × IsKept told revision file tail k f d) [
         | true ↦ λ lives kept.
             let some : Some kept.0 ≡ Some d = sym kept.1 ∙ is in
             let same : kept.0 ≡ d = cc in
@@ -100,7 +100,7 @@ by_number s row = refused_or (first_cause ((NotFound where_holds is_none row) �
 abbrev after_key : State → List ℕ → Bool → Bool → Option Doc → Outcome
 after_key s key long none doc =
     refused_or (first_cause ((KeyLength where_holds long) ∷ (NoStore where_holds none) ∷ (NotFound where_holds is_none doc) ∷ [])) s
-      (option_map_or (λ d. found_at key d s) doc (Refused NotFound, s))
+    (option_map_or (λ d. found_at key d s) doc (Refused NotFound, s))
 
 abbrev after_number : State → Bool → Option Row → Outcome
 after_number s none row =
@@ -110,8 +110,8 @@ after_number s none row =
 abbrev pub KeyAnswers : Bool → ℕ → List Block → OpenBlock → DocKey → State → Outcome → Result Entry Refusal → Type 0
 KeyAnswers told revision file tail k s outcome result =
     MatchResult result
-      (λ e. (d : Doc) × (outcome ≡ (Document (found_of k.key d), s)) × IsKept told revision file tail k e d)
-      (λ why. outcome ≡ (Refused why, s))
+    (λ e. (d : Doc) × (outcome ≡ (Document (found_of k.key d), s)) × IsKept told revision file tail k e d)
+    (λ why. outcome ≡ (Refused why, s))
 
 key_looked_up : (told : Bool) (revision : ℕ) (file : List Block) (tail : OpenBlock) (k : DocKey) (s : State) (o : Option Entry) (doc : Option Doc)
     → HasDocument told revision file tail k o doc → KeyAnswers told revision file tail k s (by_key s k.key doc) (living o)
@@ -125,7 +125,7 @@ key_looked_up told revision file tail k s (Some e) doc has =
 key_cases : (told : Bool) (revision : ℕ) (file : List Block) (tail : OpenBlock) (k : DocKey) (s : State) (stopped : Option ℕ) (long none there : Bool) (o : Option Entry) (doc : Option Doc)
     → stopped ≡ None → none ≡ there → HasDocument told revision file tail k o doc
     → KeyAnswers told revision file tail k s (after_key s k.key long there doc)
-      (unless_refused (first_cause (stop_of stopped ∷ (KeyLength where_holds long) ∷ (NoStore where_holds none) ∷ [])) (living o))
+    (unless_refused (first_cause (stop_of stopped ∷ (KeyLength where_holds long) ∷ (NoStore where_holds none) ∷ [])) (living o))
 key_cases told revision file tail k s (Some n) long none there o doc runs same has = cc
 key_cases told revision file tail k s None true none there o doc runs same has = refl
 key_cases told revision file tail k s None false true true o doc runs same has = refl
@@ -137,7 +137,7 @@ pub key_answers : (told : Bool) (p : Held) (disk : Disk) (file : List Block) (s 
     → KeyAnswers told p.revision file p.tail (key_at at.store key) s (step_with_room s (Call.Get at key)) (entry_of_key p at key)
 key_answers told p disk file s at key stands =
     key_cases told p.revision file p.tail (key_at at.store key) s p.stopped (is_wrong_key key) (is_none (numbers_in p at.store)) (is_none (store_of s.stores at.store))
-      (entry_at p.wal.entries at.store key) (doc_at s.documents at.store key) stands.running (same_stores s.documents p s.stores at.store stands.rows) (stands.documents (key_at at.store key))
+    (entry_at p.wal.entries at.store key) (doc_at s.documents at.store key) stands.running (same_stores s.documents p s.stores at.store stands.rows) (stands.documents (key_at at.store key))
 
 -- ---- by number
 
@@ -153,7 +153,7 @@ module _ (told : Bool) (p : Held) (disk : Disk) (file : List Block) (s : State) 
   number_step : (why : Option Refusal) → why_no_store p at ≡ why → step_with_room s (Call.BySeq at seq) ≡ refused_or why s (by_number s (doc_numbered s.documents at.store seq))
   number_step why is =
       number_cases s p.stopped (is_none (numbers_in p at.store)) (is_none (store_of s.stores at.store)) (doc_numbered s.documents at.store seq) why stands.running
-        (same_stores s.documents p s.stores at.store stands.rows) is
+      (same_stores s.documents p s.stores at.store stands.rows) is
 
   pub number_refused : (why : Refusal) → why_no_store p at ≡ Some why → step_with_room s (Call.BySeq at seq) ≡ (Refused why, s)
   number_refused why is = number_step (Some why) is
@@ -165,7 +165,7 @@ module _ (told : Bool) (p : Held) (disk : Disk) (file : List Block) (s : State) 
       let there = document_of told p.revision file p.tail k e (entry_at p.wal.entries at.store key) (doc_at s.documents at.store key) numbered.there lives (stands.documents k) in
       let number : there.0.seq ≡ seq = sym there.2.seq ∙ numbered.number in
       let row : doc_numbered s.documents at.store seq ≡ Some (k, there.0) =
-        subst (λ n. doc_numbered s.documents at.store n ≡ Some (k, there.0)) number (the_numbered s.documents stands.is_state.now.apart k there.0 there.1) in
+      subst (λ n. doc_numbered s.documents at.store n ≡ Some (k, there.0)) number (the_numbered s.documents stands.is_state.now.apart k there.0 there.1) in
       (there.0, number_step None none ∙ ap (by_number s) row, there.2)
 
   has_this : (key : List ℕ) (o : Option Entry) (e : Entry) → o ≡ Some e → e.seq ≡ seq → option_map_or (λ x. x.seq == seq) o false ≡ true
@@ -186,7 +186,7 @@ module _ (told : Bool) (p : Held) (disk : Disk) (file : List Block) (s : State) 
             let same : there.0 ≡ other.1 = cc in
             let wrong : true ≡ false = sym there.2 ∙ ap (λ (e : Entry). e.live) same ∙ other.3 in
             cc
-        )
+            )
       ]
 
   pub number_absent : why_no_store p at ≡ None → NoneLives p.wal.entries at.store seq → step_with_room s (Call.BySeq at seq) ≡ (Refused NotFound, s)
@@ -197,7 +197,7 @@ module _ (told : Bool) (p : Held) (disk : Disk) (file : List Block) (s : State) 
 abbrev after_info : State → Map → ℕ → ℕ → ℕ → Option Store → Outcome
 after_info s documents id commit ticket store =
     refused_or (first_cause ((NoStore where_holds is_none store) ∷ [])) s
-      (InfoIs (record { commit = commit; seq = option_map_or (λ st. st.seq) store 0; documents = count_of documents id; ticket = ticket }), s)
+    (InfoIs (record { commit = commit; seq = option_map_or (λ st. st.seq) store 0; documents = count_of documents id; ticket = ticket }), s)
 
 abbrev info_at : State → ℕ → ℕ → ℕ → ℕ → Outcome
 info_at s commit seq documents ticket = (InfoIs (record { commit = commit; seq = seq; documents = documents; ticket = ticket }), s)
@@ -207,7 +207,7 @@ InfoAnswers s outcome result = MatchResult result (λ info. outcome ≡ (InfoIs 
 
 info_cases : (s : State) (p : Held) (id : ℕ) (stopped : Option ℕ) (store : Option Store) → stopped ≡ None → ((st : Store) → store ≡ Some st → st.id ≡ id) → p.header.commit ≡ s.last.number → ticket_in p.copying ≡ ticket_of s
     → InfoAnswers s (after_info s s.documents id s.last.number (ticket_of s) store)
-      (unless_refused (stop_of stopped) (option_map_or (λ numbers. Ok (info_with p numbers)) (option_map (numbers_of s.documents) store) (Err NoStore)))
+    (unless_refused (stop_of stopped) (option_map_or (λ numbers. Ok (info_with p numbers)) (option_map (numbers_of s.documents) store) (Err NoStore)))
 info_cases s p id (Some n) store runs ids commit ticket = cc
 info_cases s p id None None runs ids commit ticket = refl
 info_cases s p id None (Some st) runs ids commit ticket =
@@ -221,7 +221,7 @@ same_ticket (Some c) = refl
 pub info_answers : (told : Bool) (p : Held) (disk : Disk) (file : List Block) (s : State) (at : StoreRef) → Stands told p disk file s → InfoAnswers s (step_with_room s (Call.Info at)) (info_in p at)
 info_answers told p disk file s at stands =
     subst (λ ns. InfoAnswers s (step_with_room s (Call.Info at)) (unless_refused (stop_of p.stopped) (option_map_or (λ numbers. Ok (info_with p numbers)) ns (Err NoStore)))) (sym (numbers_are s.documents p s.stores at.store stands.rows))
-      (info_cases s p at.store p.stopped (store_of s.stores at.store) stands.running (λ st is. eqb-true st.id at.store (passes (λ st. st.id == at.store) s.stores st is)) stands.commit (ap ticket_in stands.copying ∙ same_ticket s.copying))
+    (info_cases s p at.store p.stopped (store_of s.stores at.store) stands.running (λ st is. eqb-true st.id at.store (passes (λ st. st.id == at.store) s.stores st is)) stands.commit (ap ticket_in stands.copying ∙ same_ticket s.copying))
 
 pub answered_ok : (s : State) (outcome : Outcome) (result : Result Info Refusal) → InfoAnswers s outcome result → IfOk result (λ info. outcome ≡ (InfoIs info, s))
 answered_ok s outcome (Ok info) answers = answers

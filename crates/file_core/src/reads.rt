@@ -98,7 +98,10 @@ pub(crate) fn find_record<V: View>(
     ensures untroubled { OnOk result (V.faults view.new ≡ V.faults view.old) }
 {
     let Rec {
-        key, meta, body, ..
+        key,
+        meta,
+        body,
+        ..
     } = read(alloc, view, tail, revision, entry.address)?;
     Ok(Found {
         seq: entry.seq,

@@ -155,7 +155,10 @@ impl<H: Host> FileState<H> {
         ensures untroubled { H.View.faults self.parts.view ≡ 0 → H.faults result ≡ H.faults self.parts.host }
         ensures greatest { H.greatest result ≡ H.greatest self.parts.host }
     {
-        let FileState { parts, alloc: _alloc } = self;
+        let FileState {
+            parts,
+            alloc: _alloc,
+        } = self;
         let Parts { mut host, view, .. } = parts;
         host.absorb_view(view);
         host

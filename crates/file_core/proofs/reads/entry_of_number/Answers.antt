@@ -25,7 +25,7 @@ returns-in-Some-by_seq g c =
     let at = c.args.at.now in
     let there = ap is_none (sym c.numbers.ensures) ∙ none_is c.numbers.result c.is_none.result c.is_none.ensures ∙ c.if-is_none.false in
     subst (LooksUpNumber p at c.args.seq) (sym (c.living.ensures ∙ ap living c.get.ensures))
-      (number_found p at c.args.seq c.in-Some-by_seq.key.now c.in-Some-by_seq.ensures.found (running_store p at false c.in_default.is there))
+    (number_found p at c.args.seq c.in-Some-by_seq.key.now c.in-Some-by_seq.ensures.found (running_store p at false c.in_default.is there))
 
 pub returns-in-None : goal.returns-in-None
 returns-in-None g c =

@@ -15,4 +15,4 @@ returns-clause-reads g c =
     let old = c.args.self.now.parts in
     let views = (g.met.H.Host g.world.𝓛 g.world.𝓜 g.world.𝓡 ((λ s x. x), (λ x. x), (λ x. x), λ x. x)).views_tell in
     λ s stands. key_found g.H.Host.tells (held old) (g.H.Host.disk old.host) (g.H.View.View.content old.view) s stands c.args.at.now (g.H.View.View.faults old.view) (g.H.View.View.faults c.document.new.self.parts.view)
-      g.H.View.View.tells views c.args.key.now c.in_ok-entry.entry c.document.result (sym c.in_ok-entry.ensures) c.document.ensures.finds
+    g.H.View.View.tells views c.args.key.now c.in_ok-entry.entry c.document.result (sym c.in_ok-entry.ensures) c.document.ensures.finds
