@@ -1,15 +1,13 @@
 -- A read answers what the step answers.
-use Rattle.std.proofs.Common.{◌≡◌, ◌⊎◌, ◌≤◌, ℕ, Bool, true, List, refl, sym, ap, ◌∙◌, subst, inl, inr}
-use Rattle.std.specs.Prelude.{None, Result, Ok, Err, IsTrue, MatchResult}
-use Rattle.block_host.specs.Disk.{Disk, risen}
+use Rattle.std.proofs.Common.{◌≡◌, ◌⊎◌, ℕ, Bool, List, refl, sym, ap, ◌∙◌, subst, inl, inr}
+use Rattle.std.specs.Prelude.{Result, Ok, Err, IsTrue}
+use Rattle.block_host.specs.Disk.{Disk}
 use Rattle.block_host.specs.declared.block.Block.{Block}
 use Rattle.doc_stream.specs.Causes.{BreaksRecord, Reason}
 use Rattle.doc_stream.specs.OpenBlock.{OpenBlock}
 use Rattle.forest_model.specs.Step.{found_of, step_with_room}
 use Rattle.forest_model.specs.declared.call.Call.{Call}
-use Rattle.forest_model.specs.declared.call.Call.TheVariants as Call
 use Rattle.forest_model.specs.declared.call.Found.{Found}
-use Rattle.forest_model.specs.declared.call.Reply.{Reply}
 use Rattle.forest_model.specs.declared.call.Reply.TheVariants.{Document, Refused}
 use Rattle.forest_model.specs.declared.call.StoreRef.{StoreRef}
 use Rattle.forest_model.specs.declared.documents.DocKey.{DocKey}
@@ -66,15 +64,15 @@ module _ (told tells : Bool) (views : IsTrue told → IsTrue tells) (s : State) 
   }
 
 module _ (told : Bool) (p : Held) (disk : Disk) (file : List Block) (s : State) (stands : Stands told p disk file s) (at : StoreRef) (before after : ℕ) where
-  pub key_refused : (key : List ℕ) (why : Refusal) (result : Result Found Refusal) → entry_of_key p at key ≡ Err why → result ≡ Err why → ReadsAs told s (Call.Get at key) p.revision before after result
+  pub key_refused : (key : List ℕ) (why : Refusal) (result : Result Found Refusal) → Err why ≡ entry_of_key p at key → result ≡ Err why → ReadsAs told s (Call.Get at key) p.revision before after result
   key_refused key why result is answers =
       refuses told s (Call.Get at key) p.revision before after why result answers
-      (subst (KeyAnswers told p.revision file p.tail (key_at at.store key) s (step_with_room s (Call.Get at key))) is (key_answers told p disk file s at key stands))
+      (subst (KeyAnswers told p.revision file p.tail (key_at at.store key) s (step_with_room s (Call.Get at key))) (sym is) (key_answers told p disk file s at key stands))
 
-  pub key_found : (tells : Bool) → (IsTrue told → IsTrue tells) → (key : List ℕ) (e : Entry) (result : Result Found Refusal) → entry_of_key p at key ≡ Ok e → FindsRecord tells p.revision file p.tail e before after result
+  pub key_found : (tells : Bool) → (IsTrue told → IsTrue tells) → (key : List ℕ) (e : Entry) (result : Result Found Refusal) → Ok e ≡ entry_of_key p at key → FindsRecord tells p.revision file p.tail e before after result
       → ReadsAs told s (Call.Get at key) p.revision before after result
   key_found tells views key e result is finds =
-      let answer = subst (KeyAnswers told p.revision file p.tail (key_at at.store key) s (step_with_room s (Call.Get at key))) is (key_answers told p disk file s at key stands) in
+      let answer = subst (KeyAnswers told p.revision file p.tail (key_at at.store key) s (step_with_room s (Call.Get at key))) (sym is) (key_answers told p disk file s at key stands) in
       document_read told tells views s (Call.Get at key) (key_at at.store key) e answer.0 p.revision before after file p.tail answer.1 answer.2 result finds
 
   pub number_refused_as : (seq : ℕ) (why : Refusal) (result : Result Found Refusal) → LooksUpNumber p at seq (Err why) → result ≡ Err why → ReadsAs told s (Call.BySeq at seq) p.revision before after result

@@ -1,6 +1,6 @@
 -- What is looked up in memory, step by step.
-use Rattle.std.proofs.Common.{◌≡◌, ◌≢◌, ◌⊎◌, ℕ, Bool, true, false, List, [], ◌∷◌, refl, sym, ap, ◌∙◌, inl, inr}
-use Rattle.std.specs.Prelude.{Option, Some, None, Result, Ok, Err, is_none, is_some, not, IfOk, IfErr, if◌then◌else◌, ◌==◌}
+use Rattle.std.proofs.Common.{◌≡◌, ℕ, Bool, true, false, List, [], ◌∷◌, refl, sym, ap, ◌∙◌, subst, inl, inr}
+use Rattle.std.specs.Prelude.{Option, Some, None, Result, Ok, Err, is_none, is_some, not, if◌then◌else◌, ◌==◌}
 use Rattle.std.specs.Option.{option_map_or}
 use Rattle.std.proofs.lemmas.Bool.{eqb-true}
 use Rattle.forest_model.specs.Limits.{is_wrong_key}
@@ -9,18 +9,21 @@ use Rattle.forest_model.specs.declared.call.StoreRef.{StoreRef}
 use Rattle.forest_model.specs.declared.refusal.Refusal.{Refusal}
 use Rattle.forest_model.specs.declared.refusal.Refusal.TheVariants.{KeyLength, NoStore, NotFound, Stopped}
 use Rattle.forest_model.specs.declared.stored.Entry.{Entry}
-use Rattle.wal_index.specs.Index.{Map as Entries, entry_at, has_number}
+use Rattle.wal_index.specs.Index.{entry_at, has_number}
 use Rattle.file_core.specs.Held.{Held}
-use Rattle.file_core.specs.Lookup.{stop_of, unless_refused, numbers_in, why_no_store, why_no_key, living, entry_of_key, IsNumbered, NoneLives, LooksUpNumber}
+use Rattle.file_core.specs.Lookup.{stop_of, unless_refused, numbers_in, why_no_store, why_no_key, living, entry_of_key, IsNumbered, LooksUpNumber}
 
--- a test for nothing
-pub none_is : {A : Type 0} (o : Option A) (b : Bool) → is_some o ≡ not b → is_none o ≡ b
+none_is : {A : Type 0} (o : Option A) (b : Bool) → is_some o ≡ not b → is_none o ≡ b
 none_is None true is = refl
 none_is None false is = cc
 none_is (Some x) true is = cc
 none_is (Some x) false is = refl
 
 module _ (p : Held) (at : StoreRef) where
+  -- a test for whether the store is there
+  pub tested : (numbers : Option (ℕ × ℕ)) (test b : Bool) → numbers ≡ numbers_in p at.store → is_some numbers ≡ not test → test ≡ b → is_none (numbers_in p at.store) ≡ b
+  tested numbers test b are is answer = ap is_none (sym are) ∙ none_is numbers test is ∙ answer
+
   pub stopped_store : (faults : ℕ) → p.stopped ≡ Some faults → why_no_store p at ≡ Some (Stopped faults)
   stopped_store faults is = ap (λ o. first_cause (stop_of o ∷ (NoStore where_holds is_none (numbers_in p at.store)) ∷ [])) is
 
@@ -64,5 +67,7 @@ module _ (p : Held) (at : StoreRef) where
         | false ↦ λ dead. record { found = tt; refused = inr (none, refl, inr (key, e, numbered, dead)) }
       ] refl
 
-  pub number_found : (seq : ℕ) (key : List ℕ) → has_number p.wal.entries at.store seq key ≡ true → why_no_store p at ≡ None → LooksUpNumber p at seq (living (entry_at p.wal.entries at.store key))
-  number_found seq key has none = number_of seq key (entry_at p.wal.entries at.store key) refl has none
+  pub number_living : (seq : ℕ) (key : List ℕ) (entry : Option Entry) (result : Result Entry Refusal) → has_number p.wal.entries at.store seq key ≡ true → why_no_store p at ≡ None
+      → entry ≡ entry_at p.wal.entries at.store key → result ≡ living entry → LooksUpNumber p at seq result
+  number_living seq key entry result has none is lives =
+      subst (LooksUpNumber p at seq) (sym (lives ∙ ap living is)) (number_of seq key (entry_at p.wal.entries at.store key) refl has none)

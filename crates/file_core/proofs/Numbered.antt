@@ -1,6 +1,6 @@
 -- The document of a number, in a map of which no two documents of a store share one.
 use Rattle.std.proofs.Common.{◌≡◌, ℕ, Bool, true, false, cond, ◌&&◌, T, List, [], ◌∷◌, refl, sym, ap, ◌∙◌, subst}
-use Rattle.std.specs.Prelude.{Option, Some, None, find, ◌==◌}
+use Rattle.std.specs.Prelude.{Some, None, find, ◌==◌}
 use Rattle.std.specs.Cmp.{IsTotalOrder, tied_itself}
 use Rattle.std.specs.FinMap as finite
 use Rattle.std.specs.FinMap.Entries.{below_all, find_tied}
@@ -11,7 +11,6 @@ use Rattle.std.proofs.lemmas.Bool.{eqb-true, eq-eqb}
 use Rattle.std.proofs.lemmas.Map.Lookups.{CmpEqualImpliesEq}
 use Rattle.forest_model.proofs.KeyOrder.{keys_total, exact_keys}
 use Rattle.forest_model.specs.Documents.{Map, Entry, is_numbered, doc_numbered}
-use Rattle.forest_model.specs.Key.{key_cmp}
 use Rattle.forest_model.specs.declared.documents.DocKey.{DocKey}
 use Rattle.forest_model.specs.declared.documents.Doc.{Doc}
 

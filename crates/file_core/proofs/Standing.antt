@@ -1,6 +1,6 @@
 -- What is looked up in a file that stands for a state is what the step answers.
-use Rattle.std.proofs.Common.{◌≡◌, ◌⊎◌, ℕ, Bool, true, false, cond, List, [], ◌∷◌, map, refl, sym, ap, ◌∙◌, subst, inl, inr}
-use Rattle.std.specs.Prelude.{Option, Some, None, Result, Ok, Err, IsTrue, MatchBool, MatchResult, IfOk, IfErr, is_none, if◌then◌else◌, ◌==◌}
+use Rattle.std.proofs.Common.{◌≡◌, ℕ, Bool, true, false, cond, List, [], ◌∷◌, map, refl, sym, ap, ◌∙◌, subst, inl, inr}
+use Rattle.std.specs.Prelude.{Option, Some, None, Result, Ok, Err, MatchBool, MatchResult, IfOk, IfErr, is_none, if◌then◌else◌, ◌==◌}
 use Rattle.std.specs.Option.{option_map, option_map_or}
 use Rattle.std.specs.FinMap as finite
 use Rattle.block_host.specs.Disk.{Disk}
@@ -25,9 +25,9 @@ use Rattle.forest_model.specs.declared.state.Store.{Store}
 use Rattle.forest_model.specs.declared.stored.Entry.{Entry}
 use Rattle.kvs_names.specs.Table.{row_with_id}
 use Rattle.std.proofs.lemmas.Bool.{eqb-true, eq-eqb}
-use Rattle.wal_index.specs.Index.{key_at, entry_at, has_number}
+use Rattle.wal_index.specs.Index.{key_at, entry_at}
 use Rattle.file_core.specs.Held.{Held}
-use Rattle.file_core.specs.Lookup.{stop_of, unless_refused, numbers_in, why_no_store, living, entry_of_key, IsNumbered, NoneLives, LooksUpNumber, ticket_in, info_with, info_in}
+use Rattle.file_core.specs.Lookup.{stop_of, unless_refused, numbers_in, why_no_store, living, entry_of_key, IsNumbered, NoneLives, ticket_in, info_with, info_in}
 use Rattle.file_core.specs.Stands.{row_in, IsKept, HasDocument, Stands}
 use Rattle.file_core.proofs.Numbered.{passes, none_numbered, the_numbered}
 

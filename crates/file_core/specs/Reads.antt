@@ -7,7 +7,6 @@ use Rattle.forest_model.specs.declared.call.Call.{Call}
 use Rattle.forest_model.specs.declared.call.Found.{Found}
 use Rattle.forest_model.specs.declared.call.Reply.TheVariants.{Document, Refused}
 use Rattle.forest_model.specs.declared.refusal.Refusal.{Refusal}
-use Rattle.forest_model.specs.declared.refusal.Refusal.TheVariants as Refusal
 use Rattle.forest_model.specs.declared.state.State.{State}
 use Rattle.file_core.specs.Held.{Held}
 use Rattle.file_core.specs.Stands.{Stands}
