@@ -92,7 +92,8 @@ pub(crate) fn find_record<V: View>(
     revision: u64,
     entry: Entry,
 ) -> Result<Found, Refusal>
-    ensures finds { FindsRecord V.tells revision (V.content view.old) tail.now entry (V.faults view.old) (V.faults view.new) result }
+    ensures finds { FindsRecord V.tells revision (V.content view.old) tail.now entry (V.faults view.old) (V.faults view.new)
+        result }
     ensures content { IsTrue V.tells → V.content view.new ≡ V.content view.old }
     ensures counts { V.faults view.old ≤ V.faults view.new }
     ensures untroubled { OnOk result (V.faults view.new ≡ V.faults view.old) }

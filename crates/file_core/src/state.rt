@@ -59,10 +59,13 @@ impl<H: Host> FileState<H> {
 
     /// The document of a key.
     pub fn get(&mut self, at: &StoreRef, key: &[u8]) -> Result<Found, Refusal>
-        ensures reads { ReadsFrom H.tells (held self.old.parts) (H.disk self.old.parts.host) (H.View.content self.old.parts.view) (H.View.faults self.old.parts.view) (H.View.faults self.new.parts.view) (Call.Get at.now key.now) result }
+        ensures reads { ReadsFrom H.tells (held self.old.parts) (H.disk self.old.parts.host)
+            (H.View.content self.old.parts.view) (H.View.faults self.old.parts.view) (H.View.faults self.new.parts.view)
+            (Call.Get at.now key.now) result }
         ensures stopped { (faults : ℕ) → self.old.parts.stopped ≡ Some faults → result ≡ Err (Refusal.Stopped faults) }
         ensures damaged { (block : ℕ) → result ≡ Err (Refusal.Damaged self.old.parts.revision block) → IsTrue H.tells
-            → (e : Entry) × (entry_at self.old.parts.wal.entries at.now.store key.now ≡ Some e) × BreaksRecord self.old.parts.revision (H.View.content self.old.parts.view) self.old.parts.tail e.address block }
+            → (e : Entry) × (entry_at self.old.parts.wal.entries at.now.store key.now ≡ Some e)
+            × BreaksRecord self.old.parts.revision (H.View.content self.old.parts.view) self.old.parts.tail e.address block }
         ensures held { held self.new.parts ≡ held self.old.parts }
         ensures host { self.new.parts.host ≡ self.old.parts.host }
         ensures content { IsTrue H.tells → H.View.content self.new.parts.view ≡ H.View.content self.old.parts.view }
@@ -75,10 +78,13 @@ impl<H: Host> FileState<H> {
 
     /// The document of a store's number.
     pub fn by_seq(&mut self, at: &StoreRef, seq: u64) -> Result<Found, Refusal>
-        ensures reads { ReadsFrom H.tells (held self.old.parts) (H.disk self.old.parts.host) (H.View.content self.old.parts.view) (H.View.faults self.old.parts.view) (H.View.faults self.new.parts.view) (Call.BySeq at.now seq) result }
+        ensures reads { ReadsFrom H.tells (held self.old.parts) (H.disk self.old.parts.host)
+            (H.View.content self.old.parts.view) (H.View.faults self.old.parts.view) (H.View.faults self.new.parts.view)
+            (Call.BySeq at.now seq) result }
         ensures stopped { (faults : ℕ) → self.old.parts.stopped ≡ Some faults → result ≡ Err (Refusal.Stopped faults) }
         ensures damaged { (block : ℕ) → result ≡ Err (Refusal.Damaged self.old.parts.revision block) → IsTrue H.tells
-            → (key : List ℕ) × (e : Entry) × IsNumbered self.old.parts.wal.entries at.now.store seq key e × BreaksRecord self.old.parts.revision (H.View.content self.old.parts.view) self.old.parts.tail e.address block }
+            → (key : List ℕ) × (e : Entry) × IsNumbered self.old.parts.wal.entries at.now.store seq key e
+            × BreaksRecord self.old.parts.revision (H.View.content self.old.parts.view) self.old.parts.tail e.address block }
         ensures held { held self.new.parts ≡ held self.old.parts }
         ensures host { self.new.parts.host ≡ self.old.parts.host }
         ensures content { IsTrue H.tells → H.View.content self.new.parts.view ≡ H.View.content self.old.parts.view }
@@ -91,7 +97,8 @@ impl<H: Host> FileState<H> {
 
     // The document of an entry.
     fn document(&mut self, entry: Entry) -> Result<Found, Refusal>
-        ensures finds { FindsRecord H.View.tells self.old.parts.revision (H.View.content self.old.parts.view) self.old.parts.tail entry (H.View.faults self.old.parts.view) (H.View.faults self.new.parts.view) result }
+        ensures finds { FindsRecord H.View.tells self.old.parts.revision (H.View.content self.old.parts.view) self.old.parts.tail
+            entry (H.View.faults self.old.parts.view) (H.View.faults self.new.parts.view) result }
         ensures held { held self.new.parts ≡ held self.old.parts }
         ensures host { self.new.parts.host ≡ self.old.parts.host }
         ensures content { IsTrue H.View.tells → H.View.content self.new.parts.view ≡ H.View.content self.old.parts.view }
@@ -110,9 +117,11 @@ impl<H: Host> FileState<H> {
 
     /// What a store and the file are at.
     pub fn info(&mut self, at: &StoreRef) -> Result<Info, Refusal>
-        ensures told { (s : State) → Stands H.tells (held self.old.parts) (H.disk self.old.parts.host) (H.View.content self.old.parts.view) s
+        ensures told { (s : State)
+            → Stands H.tells (held self.old.parts) (H.disk self.old.parts.host) (H.View.content self.old.parts.view) s
             → IfOk result (λ info. step_with_room s (Call.Info at.now) ≡ (Reply.InfoIs info, s)) }
-        ensures refused { (s : State) → Stands H.tells (held self.old.parts) (H.disk self.old.parts.host) (H.View.content self.old.parts.view) s
+        ensures refused { (s : State)
+            → Stands H.tells (held self.old.parts) (H.disk self.old.parts.host) (H.View.content self.old.parts.view) s
             → IfErr result (λ why. step_with_room s (Call.Info at.now) ≡ (Reply.Refused why, s)) }
         ensures stopped { (faults : ℕ) → self.old.parts.stopped ≡ Some faults → result ≡ Err (Refusal.Stopped faults) }
         ensures held { held self.new.parts ≡ held self.old.parts }
