@@ -5,3 +5,7 @@ pub mod SetEntries
 pub mod SetBlocks
 pub mod SetStands
 pub mod SetDone
+pub mod Numbered
+pub mod Lookups
+pub mod Standing
+pub mod Answering

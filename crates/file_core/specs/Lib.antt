@@ -1,5 +1,6 @@
 pub mod Held
 pub mod Stands
 pub mod Reads
+pub mod Lookup
 pub mod Updates
 pub mod Setting

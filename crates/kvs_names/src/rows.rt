@@ -34,7 +34,7 @@ pub(crate) fn has_id(rows: &[Row], id: u64) -> bool
     false
 }
 
-// The sequence number and the count of documents of a store.
+// The sequence number and the count of documents of the store of an id.
 pub(crate) fn numbers_of(rows: &[Row], id: u64) -> Option<(u64, u64)>
     ensures { result ≡ option_map (λ s. (s.seq, s.documents)) (row_with_id (map row_of rows.now) id) }
 {

@@ -60,7 +60,7 @@ impl Names {
         self.next
     }
 
-    /// The sequence number of a store and its count of documents.
+    /// The sequence number of the store of an id, and how many documents it has.
     pub fn numbers(&self, id: u64) -> Option<(u64, u64)>
         ensures { result ≡ option_map (λ s. (s.seq, s.documents)) (row_with_id self.now.rows id) }
     {
