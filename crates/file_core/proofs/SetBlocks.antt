@@ -41,7 +41,6 @@ join : (a b : Bool) → IsTrue a → IsTrue b → IsTrue (a && b)
 join true b t u = u
 join false b t u = t
 
-
 regroup : (a : List ℕ) (k : ℕ) (u z r t c : List ℕ) → (((((a ++ (k ∷ 1 ∷ [])) ++ u) ++ z) ++ r) ++ t) ++ c ≡ a ++ (k ∷ 1 ∷ (u ++ (z ++ (r ++ (t ++ c)))))
 regroup a k u z r t c = simp append_assoc
 

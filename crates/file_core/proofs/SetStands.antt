@@ -81,7 +81,6 @@ module _ (rules : RulesStay) (keep : PutsKeep) (lands : PutStands) (told : Bool)
   abbrev older : Option Entry
   older = finite.get old.held.wal.entries k
 
-
   lengths : Lengths (record_length key meta body) old.held.tail new.held.tail sets.out
   lengths = put_lengths old.held.revision (record_length key meta body) (record_bytes (put_of k d)) old.held.tail new.held.tail sets.out sets.sets.put (length-record (put_of k d))
 
@@ -279,9 +278,11 @@ set_updates rules headers keep lands told at key meta body old new result answer
         done = (
           ap (λ (o : Outcome). o.0) step ∙ ap (λ n. replies.Seq (n + 1)) (sym next) ∙ ap replies.Seq (sym gives.0),
           subst (λ (o : Outcome). StandsAt told new o.1) (sym step) (set_stands rules keep lands told at key meta body old new s f stands was.long there.0 there.1 room step sets),
-          (f ++ bytes_of sets.out,
-          subst (λ (o : Outcome). FileAfter s f (Some (calls.Set at key meta body)) o.1 (f ++ bytes_of sets.out)) (sym step) (set_grows rules keep lands told at key meta body old new s f stands was.long there.0 there.1 room step sets),
-          set_file rules keep lands told at key meta body old new s f stands was.long there.0 there.1 room step sets headers was),
+          (
+            f ++ bytes_of sets.out,
+            subst (λ (o : Outcome). FileAfter s f (Some (calls.Set at key meta body)) o.1 (f ++ bytes_of sets.out)) (sym step) (set_grows rules keep lands told at key meta body old new s f stands was.long there.0 there.1 room step sets),
+            set_file rules keep lands told at key meta body old new s f stands was.long there.0 there.1 room step sets headers was,
+          ),
         );
         refused = λ other h. absurd (no_refusal _ other (sym (ap (λ (o : Outcome). o.0) step) ∙ h));
         reason = tt;
