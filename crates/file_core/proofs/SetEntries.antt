@@ -1,5 +1,5 @@
 -- The index and the documents once a key is set.
-use Rattle.std.proofs.Common.{◌≡◌, ◌≢◌, ℕ, ◌+◌, ◌≤◌, ◌<◌, Bool, true, false, cond, List, [], ◌∷◌, Option, Some, None, refl, sym, ap, subst, ◌∙◌, arith, inl, inr}
+use Rattle.std.proofs.Common.{◌≡◌, ◌≢◌, ℕ, ◌+◌, ◌≤◌, ◌<◌, Bool, true, false, cond, List, Option, Some, None, refl, sym, ap, subst, ◌∙◌, arith, inl, inr}
 use Rattle.std.specs.Prelude.{◌==◌, IsTrue, is_some, MatchBool}
 use Rattle.std.specs.Option.{option_map, option_map_or}
 use Rattle.std.specs.FinMap as finite
@@ -22,7 +22,7 @@ use Rattle.wal_index.specs.Index.{Map as Entries, entry_at, has_number}
 use Rattle.file_core.specs.Stands.{IsKept, HasDocument, AreDocuments, DrawNumbers, SameAtSameNumber, put_of}
 use Rattle.file_core.specs.Setting.{is_live, live_len, entry_of}
 use Rattle.file_core.proofs.Inserted.{same_or_other, got_own, got_other, part}
-use Rattle.file_core.proofs.StoreRows.{found_id, at_seq_own, store_of-with_seq, own_raised, each_raised}
+use Rattle.file_core.proofs.StoreRows.{found_id, store_of-with_seq, own_raised, each_raised}
 
 -- ---- documents
 

@@ -1,13 +1,13 @@
 -- The state that an open file stands for.
 use Rattle.std.specs.Prelude.{◌≡◌, ℕ, ◌+◌, ◌*◌, ◌^◌, ◌≤◌, ◌⊎◌, Bool, true, IsTrue, List, length, map, Option, Some, None, MatchBool}
-use Rattle.std.specs.Option.{option_map, option_map_or}
+use Rattle.std.specs.Option.{option_map}
 use Rattle.std.specs.FinMap as finite
 use Rattle.block_host.specs.Disk.{Disk}
 use Rattle.block_host.specs.declared.block.Block.{Block}
 use Rattle.doc_stream.specs.OpenBlock.{OpenBlock}
 use Rattle.doc_stream.specs.Reading.{RecordAt}
 use Rattle.file_image.specs.Commits.{live_bytes}
-use Rattle.forest_model.specs.Documents.{Map, key_at, doc_at, count_of}
+use Rattle.forest_model.specs.Documents.{Map, doc_at, count_of}
 use Rattle.forest_model.specs.State.{IsState, OfStore, nothing_new}
 use Rattle.forest_model.specs.Step.{record_length}
 use Rattle.forest_model.specs.Stored.{StoreRow}

@@ -1,5 +1,5 @@
 -- What an updating call of an open file answers and changes.
-use Rattle.std.specs.Prelude.{◌≡◌, ◌≢◌, ◌⊎◌, ◌≤◌, ℕ, Bool, IsTrue, List, map, length, Option, Some, IfOk, IfErr, OnOk, Result, Err}
+use Rattle.std.specs.Prelude.{◌≡◌, ◌≢◌, ◌⊎◌, ◌≤◌, ℕ, Bool, IsTrue, List, map, length, Some, IfOk, IfErr, Result, Err}
 use Rattle.block_host.specs.Disk.{Disk, risen}
 use Rattle.block_host.specs.declared.block.Block.{Block}
 use Rattle.forest_model.specs.Blocks.{File, last_header}
@@ -9,7 +9,6 @@ use Rattle.forest_model.specs.declared.call.Call.{Call}
 use Rattle.forest_model.specs.declared.call.Reply.{Reply}
 use Rattle.forest_model.specs.declared.call.Reply.TheVariants.{Refused}
 use Rattle.forest_model.specs.declared.refusal.Refusal.{Refusal}
-use Rattle.forest_model.specs.declared.refusal.Refusal.TheVariants as Refusal
 use Rattle.forest_model.specs.declared.state.State.{State}
 use Rattle.file_core.specs.Held.{Held, held}
 use Rattle.file_core.specs.declared.parts.Parts.{Parts}

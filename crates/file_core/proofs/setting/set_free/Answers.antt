@@ -1,17 +1,13 @@
-use Rattle.std.proofs.Common.{◌≡◌, ℕ, ◌+◌, ◌≤◌, ◌++◌, List, [], length, true, refl, sym, ap, subst, ◌∙◌}
+use Rattle.std.proofs.Common.{◌≡◌, ℕ, ◌+◌, ◌++◌, [], true, sym, ap, subst, ◌∙◌}
 use Rattle.std.specs.Prelude.{IsTrue}
-use Rattle.block_host.specs.declared.block.Block.{Block}
-use Rattle.doc_stream.specs.OpenBlock.{PutsBytes, address_of}
+use Rattle.doc_stream.specs.OpenBlock.{PutsBytes}
 use Rattle.doc_stream.specs.Records.{is_record, record_bytes}
 use Rattle.forest_model.specs.Documents.{key_at}
-use Rattle.forest_model.specs.Step.{record_length}
-use Rattle.forest_model.specs.declared.documents.DocKey.{DocKey}
-use Rattle.forest_model.specs.declared.documents.Doc.{Doc}
 use Rattle.forest_model.specs.declared.stored.Entry.{Entry}
 use Rattle.forest_model.specs.declared.stored.Rec.{Rec}
-use Rattle.file_core.specs.Held.{Held, held}
+use Rattle.file_core.specs.Held.{held}
 use Rattle.file_core.specs.Stands.{put_of}
-use Rattle.file_core.specs.Setting.{set_doc, entry_of, Sets}
+use Rattle.file_core.specs.Setting.{set_doc, entry_of}
 use Rattle.file_core.proofs.SetDone.{entered}
 use Rattle.file_core.proofs.setting.set_free.Goals as goal
 
