@@ -1,6 +1,6 @@
 -- What a map by store and key has once a value is put, and what a sum over it comes to.
 use Rattle.std.proofs.Common.{◌≡◌, ◌≢◌, ℕ, ◌+◌, ◌≤◌, Bool, true, false, cond, List, [], ◌∷◌, Option, Some, None, refl, sym, ap, subst, ◌∙◌, arith, inl, inr}
-use Rattle.std.specs.Prelude.{sum_by, IsTrue, ◌&&◌, ◌⊎◌, ◌==◌, T}
+use Rattle.std.specs.Prelude.{sum_by, IsTrue, ◌&&◌, ◌⊎◌, T}
 use Rattle.std.specs.Option.{option_map_or}
 use Rattle.std.specs.FinMap as finite
 use Rattle.std.specs.FinMap.Entries.{below_all, by_order}

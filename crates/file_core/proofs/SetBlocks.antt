@@ -1,5 +1,5 @@
 -- What a record that is put makes of the open block and of the file.
-use Rattle.std.proofs.Common.{◌≡◌, ℕ, ◌+◌, ◌-◌, ◌*◌, ◌/◌, ◌%◌, ◌<◌, ◌≤◌, suc, Bool, true, false, List, [], ◌∷◌, ◌++◌, length, map, refl, sym, ap, subst, ◌∙◌, arith, append_assoc, length-append}
+use Rattle.std.proofs.Common.{◌≡◌, ℕ, ◌+◌, ◌-◌, ◌*◌, ◌/◌, ◌%◌, ◌≤◌, suc, Bool, true, false, List, [], ◌∷◌, ◌++◌, length, refl, sym, ap, subst, ◌∙◌, arith, append_assoc, length-append}
 use Rattle.std.specs.Prelude.{IsTrue, ◌&&◌, ◌==◌, slice_index, replicate}
 use Rattle.std.specs.List.{list_all}
 use Rattle.std.proofs.lemmas.List.{length-replicate}
@@ -8,7 +8,7 @@ use Rattle.block_host.specs.declared.block.Block.{Block}
 use Rattle.block_host.specs.Sealed.{IsSealed, sealed_front, with_checksum, padded, zeros}
 use Rattle.doc_stream.specs.OpenBlock.{OpenBlock, AreFull, PutsBytes}
 use Rattle.doc_stream.specs.Records.{record_bytes}
-use Rattle.forest_model.specs.Blocks.{File, is_records}
+use Rattle.forest_model.specs.Blocks.{is_records}
 use Rattle.forest_model.specs.Step.{record_length}
 use Rattle.forest_model.specs.declared.stored.Rec.{Rec}
 use Rattle.file_core.specs.Updates.{bytes_of}
@@ -40,7 +40,6 @@ put_lengths revision n bytes before after out puts is =
 join : (a b : Bool) → IsTrue a → IsTrue b → IsTrue (a && b)
 join true b t u = u
 join false b t u = t
-
 
 regroup : (a : List ℕ) (k : ℕ) (u z r t c : List ℕ) → (((((a ++ (k ∷ 1 ∷ [])) ++ u) ++ z) ++ r) ++ t) ++ c ≡ a ++ (k ∷ 1 ∷ (u ++ (z ++ (r ++ (t ++ c)))))
 regroup a k u z r t c = simp append_assoc

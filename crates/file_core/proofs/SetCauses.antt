@@ -1,5 +1,5 @@
 -- The causes of a set by what is in memory are those of the step.
-use Rattle.std.proofs.Common.{◌≡◌, ◌≢◌, ℕ, ◌+◌, ◌/◌, Bool, true, false, cond, List, [], ◌∷◌, ◌++◌, length, map, Option, Some, None, refl, sym, ap, ◌∙◌}
+use Rattle.std.proofs.Common.{◌≡◌, ℕ, ◌+◌, ◌/◌, Bool, true, false, List, [], ◌∷◌, ◌++◌, length, Option, Some, None, refl, sym, ap, ◌∙◌}
 use Rattle.std.specs.Prelude.{is_none, nat_lt}
 use Rattle.std.specs.Option.{option_map, option_map_or}
 use Rattle.std.proofs.lemmas.Option.{same_Some, none-some}
@@ -10,7 +10,6 @@ use Rattle.forest_model.specs.Limits.{is_wrong_key, is_wrong_body, any_worn}
 use Rattle.forest_model.specs.Documents.{Map, count_of}
 use Rattle.forest_model.specs.Stores.{store_of, seq_of}
 use Rattle.forest_model.specs.Step.{Outcome, ◌where_holds◌, first_cause, refused_or, causes, full, record_length, step_of, answer}
-use Rattle.forest_model.specs.declared.call.Limits.{Limits}
 use Rattle.forest_model.specs.declared.call.StoreRef.{StoreRef}
 use Rattle.forest_model.specs.declared.call.Call.TheVariants as calls
 use Rattle.forest_model.specs.declared.call.Reply.TheVariants.{Refused}
@@ -21,7 +20,7 @@ use Rattle.forest_model.specs.declared.state.Store.{Store}
 use Rattle.kvs_names.specs.Table.{row_with_id}
 use Rattle.file_core.specs.Held.{Held}
 use Rattle.file_core.specs.Stands.{Stands, row_in}
-use Rattle.file_core.specs.Setting.{seq_in, documents_in, blocks_needed, full_cause, set_causes}
+use Rattle.file_core.specs.Setting.{seq_in, documents_in, blocks_needed, set_causes}
 use Rattle.file_core.proofs.StoreRows.{row_found, found_id}
 
 -- ---- causes one after another

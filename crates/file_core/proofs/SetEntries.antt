@@ -1,5 +1,5 @@
 -- The index and the documents once a key is set.
-use Rattle.std.proofs.Common.{◌≡◌, ◌≢◌, ℕ, ◌+◌, ◌≤◌, ◌<◌, Bool, true, false, cond, List, [], ◌∷◌, Option, Some, None, refl, sym, ap, subst, ◌∙◌, arith, inl, inr}
+use Rattle.std.proofs.Common.{◌≡◌, ◌≢◌, ℕ, ◌+◌, ◌≤◌, ◌<◌, Bool, true, false, cond, List, Option, Some, None, refl, sym, ap, subst, ◌∙◌, arith, inl, inr}
 use Rattle.std.specs.Prelude.{◌==◌, IsTrue, is_some, MatchBool}
 use Rattle.std.specs.Option.{option_map, option_map_or}
 use Rattle.std.specs.FinMap as finite
@@ -22,7 +22,7 @@ use Rattle.wal_index.specs.Index.{Map as Entries, entry_at, has_number}
 use Rattle.file_core.specs.Stands.{IsKept, HasDocument, AreDocuments, DrawNumbers, SameAtSameNumber, put_of}
 use Rattle.file_core.specs.Setting.{is_live, live_len, entry_of}
 use Rattle.file_core.proofs.Inserted.{same_or_other, got_own, got_other, part}
-use Rattle.file_core.proofs.StoreRows.{found_id, at_seq_own, store_of-with_seq, own_raised, each_raised}
+use Rattle.file_core.proofs.StoreRows.{found_id, store_of-with_seq, own_raised, each_raised}
 
 -- ---- documents
 
@@ -41,10 +41,10 @@ module _ (told : Bool) (revision : ℕ) (file file' : List Block) (tail tail' : 
       → (IsTrue told → RecordAt revision file' tail' (entry_of tail k d).address (put_of k d)) → AreDocuments told revision file' tail' (finite.insert entries k (entry_of tail k d)) (finite.insert documents k d)
   documents_set entries documents k d are there q = elim (same_or_other q k) [
     | inl same ↦ subst (λ (x : DocKey). HasDocument told revision file' tail' x (finite.get (finite.insert entries k (entry_of tail k d)) x) (finite.get (finite.insert documents k d) x)) (sym same)
-    (subst (λ (oe : Option Entry). HasDocument told revision file' tail' k oe (finite.get (finite.insert documents k d) k)) (sym (got_own entries k (entry_of tail k d)))
-    (d, got_own documents k d, record { seq = refl; len = refl; there = there }))
+        (subst (λ (oe : Option Entry). HasDocument told revision file' tail' k oe (finite.get (finite.insert documents k d) k)) (sym (got_own entries k (entry_of tail k d)))
+        (d, got_own documents k d, record { seq = refl; len = refl; there = there }))
     | inr other ↦ subst (λ (oe : Option Entry). HasDocument told revision file' tail' q oe (finite.get (finite.insert documents k d) q)) (sym (got_other entries k q (entry_of tail k d) other))
-    (subst (λ (od : Option Doc). HasDocument told revision file' tail' q (finite.get entries q) od) (sym (got_other documents k q d other)) (has_more q (finite.get entries q) (finite.get documents q) (are q)))
+        (subst (λ (od : Option Doc). HasDocument told revision file' tail' q (finite.get entries q) od) (sym (got_other documents k q d other)) (has_more q (finite.get entries q) (finite.get documents q) (are q)))
   ]
 
 -- what the older entry tells of the older document
@@ -77,12 +77,12 @@ numbers_set entries stores id key st e old found next = record { drawn = drawn; 
   drawn : (store : ℕ) (q : List ℕ) (x : Entry) → entry_at (finite.insert entries (key_at id key) e) store q ≡ Some x → (1 ≤ x.seq) × OfStore (store_of (with_seq stores id e.seq) store) (λ s. x.seq ≤ s.seq)
   drawn store q x got = elim (same_or_other (key_at store q) (key_at id key)) [
     | inl same ↦
-    let new : e ≡ x = same_Some e x (sym (got_own entries (key_at id key) e) ∙ ap (finite.get (finite.insert entries (key_at id key) e)) (sym same) ∙ got) in
-    subst (λ (y : Entry). (1 ≤ y.seq) × OfStore (store_of (with_seq stores id e.seq) store) (λ s. y.seq ≤ s.seq)) new
-    (omega arith, subst (λ (n : ℕ). OfStore (store_of (with_seq stores id e.seq) n) (λ s. e.seq ≤ s.seq)) (sym (ap (λ (y : DocKey). y.store) same)) (own_raised stores id e.seq st found))
+        let new : e ≡ x = same_Some e x (sym (got_own entries (key_at id key) e) ∙ ap (finite.get (finite.insert entries (key_at id key) e)) (sym same) ∙ got) in
+        subst (λ (y : Entry). (1 ≤ y.seq) × OfStore (store_of (with_seq stores id e.seq) store) (λ s. y.seq ≤ s.seq)) new
+        (omega arith, subst (λ (n : ℕ). OfStore (store_of (with_seq stores id e.seq) n) (λ s. e.seq ≤ s.seq)) (sym (ap (λ (y : DocKey). y.store) same)) (own_raised stores id e.seq st found))
     | inr other ↦
-    let was = old.drawn store q x (sym (got_other entries (key_at id key) (key_at store q) e other) ∙ got) in
-    (was.0, each_raised stores id e.seq st found (omega (arith, next)) store x.seq was.1)
+        let was = old.drawn store q x (sym (got_other entries (key_at id key) (key_at store q) e other) ∙ got) in
+        (was.0, each_raised stores id e.seq st found (omega (arith, next)) store x.seq was.1)
   ]
 
   own_number : (store seq : ℕ) (q : List ℕ) → key_at store q ≡ key_at id key → has_number (finite.insert entries (key_at id key) e) store seq q ≡ true → e.seq ≡ seq

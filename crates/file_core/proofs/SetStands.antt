@@ -1,33 +1,29 @@
 -- The file stands for the state after a set.
-use Rattle.std.proofs.Common.{◌≡◌, ◌≢◌, ℕ, ◌+◌, ◌-◌, ◌*◌, ◌/◌, ◌%◌, ◌^◌, ◌≤◌, ◌<◌, Bool, true, false, cond, List, [], ◌∷◌, ◌++◌, length, map, Option, Some, None, Ok, Err, refl, sym, ap, subst, ◌∙◌, arith, inl, inr, length-append}
-use Rattle.std.specs.Prelude.{◌==◌, ◌⊎◌, min, IsTrue, is_none, is_some, nat_lt, MatchBool, MatchOption, MatchResult, IfOk, IfErr, OnOk, Result, if◌then◌else◌}
+use Rattle.std.proofs.Common.{◌≡◌, ◌≢◌, ℕ, ◌+◌, ◌-◌, ◌*◌, ◌/◌, ◌%◌, ◌^◌, ◌≤◌, ◌<◌, Bool, false, List, ◌++◌, length, map, Option, Some, None, Ok, Err, refl, sym, ap, subst, ◌∙◌, arith, inl, inr, length-append}
+use Rattle.std.specs.Prelude.{min, IsTrue, is_none, is_some, nat_lt, MatchBool, MatchOption, Result, if◌then◌else◌}
 use Rattle.std.specs.List.{list_all}
 use Rattle.std.specs.Option.{option_map_or}
 use Rattle.std.specs.FinMap as finite
 use Rattle.std.proofs.lemmas.Bool.{eq-eqb}
 use Rattle.std.proofs.lemmas.Bool.Decides.{nat_tests}
 use Rattle.std.proofs.lemmas.Option.{none-some}
-use Rattle.block_host.specs.Disk.{Disk}
 use Rattle.block_host.specs.declared.block.Block.{Block}
 use Rattle.doc_stream.specs.OpenBlock.{OpenBlock, PutsBytes, address_of}
 use Rattle.doc_stream.specs.Reading.{RecordAt}
 use Rattle.doc_stream.specs.Records.{is_record, record_bytes}
-use Rattle.file_image.specs.Commits.{live_of, live_bytes}
+use Rattle.file_image.specs.Commits.{live_bytes}
 use Rattle.forest_model.specs.Blocks.{File, is_records}
-use Rattle.forest_model.specs.Documents.{Map, key_at, doc_of, count_of}
-use Rattle.forest_model.specs.Run.{FileAfter, AddsRecords, Grows}
+use Rattle.forest_model.specs.Documents.{key_at, doc_of, count_of}
+use Rattle.forest_model.specs.Run.{FileAfter, Grows}
 use Rattle.forest_model.specs.State.{IsState}
 use Rattle.forest_model.specs.Stores.{store_of, seq_of}
 use Rattle.forest_model.specs.Step.{Outcome, answer, first_cause, next_seq, record_length, step_of}
-use Rattle.forest_model.specs.declared.call.Call.{Call}
 use Rattle.forest_model.specs.declared.call.Call.TheVariants as calls
-use Rattle.forest_model.specs.declared.call.Reply.{Reply}
 use Rattle.forest_model.specs.declared.call.Reply.TheVariants as replies
 use Rattle.forest_model.specs.declared.call.StoreRef.{StoreRef}
 use Rattle.forest_model.specs.declared.documents.DocKey.{DocKey}
 use Rattle.forest_model.specs.declared.documents.Doc.{Doc}
 use Rattle.forest_model.specs.declared.refusal.Refusal.{Refusal}
-use Rattle.forest_model.specs.declared.refusal.Refusal.TheVariants as Refusal
 use Rattle.forest_model.specs.declared.state.State.{State}
 use Rattle.forest_model.specs.declared.state.Store.{Store}
 use Rattle.forest_model.specs.declared.stored.Entry.{Entry}
@@ -35,11 +31,11 @@ use Rattle.forest_model.specs.declared.stored.Rec.{Rec}
 use Rattle.model_laws.specs.Laws.{RulesStay, RecordsKeepHeader}
 use Rattle.file_core.specs.Held.{Held}
 use Rattle.file_core.specs.Stands.{Stands, AreDocuments, DrawNumbers, put_of}
-use Rattle.file_core.specs.Updates.{Moment, StandsAt, IsFile, UpdatesAs, Troubled, bytes_of}
-use Rattle.file_core.specs.Setting.{seq_in, documents_in, set_causes, set_doc, is_live, documents_after, live_after, entry_of, full_cause, blocks_needed, Sets, SetsFile, OnlyMemory, SetGives, SetAnswers}
-use Rattle.file_core.proofs.Inserted.{part, live-part, live-insert, count-insert, count-other, count-live}
+use Rattle.file_core.specs.Updates.{Moment, StandsAt, IsFile, UpdatesAs, bytes_of}
+use Rattle.file_core.specs.Setting.{seq_in, documents_in, set_causes, is_live, documents_after, live_after, entry_of, blocks_needed, SetsFile, OnlyMemory, SetGives, SetAnswers}
+use Rattle.file_core.proofs.Inserted.{live-part, live-insert, count-insert, count-other, count-live}
 use Rattle.file_core.proofs.StoreRows.{rows_counted}
-use Rattle.file_core.proofs.SetCauses.{NoneHolds, none_holds, unmet, gone_is, seq_is, documents_is, step_refused, step_answered}
+use Rattle.file_core.proofs.SetCauses.{none_holds, unmet, gone_is, seq_is, documents_is, step_refused, step_answered}
 use Rattle.file_core.proofs.SetEntries.{documents_set, older_len, older_lives, numbers_set, unchanged_set}
 use Rattle.file_core.proofs.SetBlocks.{Lengths, put_lengths, length-record, put_records, behind, length-bytes_of, bytes-append}
 
@@ -80,7 +76,6 @@ module _ (rules : RulesStay) (keep : PutsKeep) (lands : PutStands) (told : Bool)
 
   abbrev older : Option Entry
   older = finite.get old.held.wal.entries k
-
 
   lengths : Lengths (record_length key meta body) old.held.tail new.held.tail sets.out
   lengths = put_lengths old.held.revision (record_length key meta body) (record_bytes (put_of k d)) old.held.tail new.held.tail sets.out sets.sets.put (length-record (put_of k d))
@@ -279,9 +274,11 @@ set_updates rules headers keep lands told at key meta body old new result answer
         done = (
           ap (λ (o : Outcome). o.0) step ∙ ap (λ n. replies.Seq (n + 1)) (sym next) ∙ ap replies.Seq (sym gives.0),
           subst (λ (o : Outcome). StandsAt told new o.1) (sym step) (set_stands rules keep lands told at key meta body old new s f stands was.long there.0 there.1 room step sets),
-          (f ++ bytes_of sets.out,
-          subst (λ (o : Outcome). FileAfter s f (Some (calls.Set at key meta body)) o.1 (f ++ bytes_of sets.out)) (sym step) (set_grows rules keep lands told at key meta body old new s f stands was.long there.0 there.1 room step sets),
-          set_file rules keep lands told at key meta body old new s f stands was.long there.0 there.1 room step sets headers was),
+          (
+            f ++ bytes_of sets.out,
+            subst (λ (o : Outcome). FileAfter s f (Some (calls.Set at key meta body)) o.1 (f ++ bytes_of sets.out)) (sym step) (set_grows rules keep lands told at key meta body old new s f stands was.long there.0 there.1 room step sets),
+            set_file rules keep lands told at key meta body old new s f stands was.long there.0 there.1 room step sets headers was,
+          ),
         );
         refused = λ other h. absurd (no_refusal _ other (sym (ap (λ (o : Outcome). o.0) step) ∙ h));
         reason = tt;

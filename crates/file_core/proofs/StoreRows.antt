@@ -1,5 +1,5 @@
 -- The table in memory beside the stores of the state, and both once a store has drawn a number.
-use Rattle.std.proofs.Common.{◌≡◌, ◌≢◌, ℕ, ◌+◌, ◌≤◌, ◌<◌, Bool, true, false, cond, List, [], ◌∷◌, map, Option, Some, None, refl, sym, ap, subst, ◌∙◌, arith}
+use Rattle.std.proofs.Common.{◌≡◌, ◌≢◌, ℕ, ◌≤◌, Bool, true, false, cond, List, [], ◌∷◌, map, Option, Some, None, refl, sym, ap, subst, ◌∙◌, arith}
 use Rattle.std.specs.Prelude.{◌==◌}
 use Rattle.std.specs.Option.{option_map}
 use Rattle.std.proofs.lemmas.Bool.{eqb-true, eq-eqb, cond-true, true≢false}
@@ -7,7 +7,6 @@ use Rattle.std.proofs.lemmas.Option.{same_Some, none-some}
 use Rattle.forest_model.specs.Documents.{Map, count_of}
 use Rattle.forest_model.specs.Stores.{store_of, at_seq, with_seq}
 use Rattle.forest_model.specs.State.{OfStore}
-use Rattle.forest_model.specs.Stored.{StoreRow}
 use Rattle.forest_model.specs.declared.state.Store.{Store}
 use Rattle.kvs_names.specs.Table.{row_with_id, with_numbers}
 use Rattle.file_core.specs.Stands.{row_in}

@@ -1,5 +1,5 @@
 -- What an updating call of an open file answers and changes.
-use Rattle.std.specs.Prelude.{◌≡◌, ◌≢◌, ◌⊎◌, ◌≤◌, ℕ, Bool, IsTrue, List, map, Some, IfOk, IfErr, OnOk, Result, Err}
+use Rattle.std.specs.Prelude.{◌≡◌, ◌≢◌, ◌⊎◌, ◌≤◌, ℕ, Bool, IsTrue, List, map, length, Some, IfOk, IfErr, Result, Err}
 use Rattle.block_host.specs.Disk.{Disk, risen}
 use Rattle.block_host.specs.declared.block.Block.{Block}
 use Rattle.forest_model.specs.Blocks.{File, last_header}

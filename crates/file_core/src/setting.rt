@@ -43,9 +43,12 @@ impl<H: Host> FileState<H> {
         ensures stopped { (faults : ℕ) → self.old.parts.stopped ≡ Some faults → result ≡ Err (Refusal.Stopped faults) }
         ensures aside { IsTrue H.tells → Aside self.old.parts.revision (H.disk self.old.parts.host) (H.disk self.new.parts.host) }
         ensures halts { result ≡ Err Refusal.DiskFault → self.new.parts.stopped ≡ Some (H.faults self.new.parts.host) }
+        ensures clock { (H.disk self.old.parts.host).moment ≤ (H.disk self.new.parts.host).moment }
         ensures counts { H.faults self.old.parts.host ≤ H.faults self.new.parts.host }
         ensures untroubled { OnOk result (H.faults self.new.parts.host ≡ H.faults self.old.parts.host) }
         ensures view_count { H.View.faults self.new.parts.view ≡ H.View.faults self.old.parts.view }
+        ensures opened { self.new.parts.opened ≡ self.old.parts.opened }
+        ensures damaged { self.new.parts.damaged ≡ self.old.parts.damaged }
     {
         rules();
         record_blocks();
@@ -73,9 +76,12 @@ fn set_in<H: Host>(
         result }
     ensures aside { IsTrue H.tells → Aside parts.old.revision (H.disk parts.old.host) (H.disk parts.new.host) }
     ensures halts { result ≡ Err Refusal.DiskFault → parts.new.stopped ≡ Some (H.faults parts.new.host) }
+    ensures clock { (H.disk parts.old.host).moment ≤ (H.disk parts.new.host).moment }
     ensures counts { H.faults parts.old.host ≤ H.faults parts.new.host }
     ensures untroubled { OnOk result (H.faults parts.new.host ≡ H.faults parts.old.host) }
     ensures view_count { H.View.faults parts.new.view ≡ H.View.faults parts.old.view }
+    ensures opened { parts.new.opened ≡ parts.old.opened }
+    ensures damaged { parts.new.damaged ≡ parts.old.damaged }
 {
     let numbers = may_set(parts, at, key, meta, body)?;
     set_free(alloc, parts, at, numbers, key, meta, body)
@@ -161,9 +167,12 @@ fn set_free<H: Host>(
         result }
     ensures aside { IsTrue H.tells → Aside parts.old.revision (H.disk parts.old.host) (H.disk parts.new.host) }
     ensures halts { result ≡ Err Refusal.DiskFault → parts.new.stopped ≡ Some (H.faults parts.new.host) }
+    ensures clock { (H.disk parts.old.host).moment ≤ (H.disk parts.new.host).moment }
     ensures counts { H.faults parts.old.host ≤ H.faults parts.new.host }
     ensures untroubled { OnOk result (H.faults parts.new.host ≡ H.faults parts.old.host) }
     ensures view_count { H.View.faults parts.new.view ≡ H.View.faults parts.old.view }
+    ensures opened { parts.new.opened ≡ parts.old.opened }
+    ensures damaged { parts.new.damaged ≡ parts.old.damaged }
 {
     let seq = numbers.0 + 1;
     let len = record_len(key, meta, body);
@@ -182,7 +191,12 @@ fn set_free<H: Host>(
         live: true,
         len,
     };
-    match grow(&mut parts.host, &mut parts.view, parts.revision, out.as_slice()) {
+    match grow(
+        &mut parts.host,
+        &mut parts.view,
+        parts.revision,
+        out.as_slice(),
+    ) {
         Ok(()) => {
             enter(parts, at.store, key, room, entry, numbers.1);
             Ok(seq)
@@ -274,19 +288,23 @@ fn enter<H: Host>(
     requires place { parts.old.place + 1 < 2 ^ 62 }
     ensures entries { parts.new.wal.entries ≡ finite.insert parts.old.wal.entries (key_at store key.now) entry }
     ensures rest { held parts.new ≡ record (held parts.old) {
-            blocks = parts.old.tail.number;
-            names = counted parts.old.names store entry.seq (documents_after (finite.get parts.old.wal.entries (key_at store key.now)) documents);
-            wal = parts.new.wal;
-            loose = length parts.old.tail.bytes;
-            live = live_after (finite.get parts.old.wal.entries (key_at store key.now)) parts.old.live entry.len;
-            place = parts.old.place + 1;
-        } }
+      blocks = parts.old.tail.number;
+      names = counted parts.old.names store entry.seq (documents_after (finite.get parts.old.wal.entries (key_at store key.now)) documents);
+      wal = parts.new.wal;
+      loose = length parts.old.tail.bytes;
+      live = live_after (finite.get parts.old.wal.entries (key_at store key.now)) parts.old.live entry.len;
+      place = parts.old.place + 1;
+    } }
     ensures host { parts.new.host ≡ parts.old.host }
     ensures view { parts.new.view ≡ parts.old.view }
+    ensures opened { parts.new.opened ≡ parts.old.opened }
+    ensures damaged { parts.new.damaged ≡ parts.old.damaged }
 {
     let older = parts.wal.get(store, key);
     parts.live = live_with(older, parts.live, entry.len);
-    parts.names.count(store, entry.seq, documents_with(older, documents));
+    parts
+        .names
+        .count(store, entry.seq, documents_with(older, documents));
     parts.wal.put(store, room, entry);
     parts.blocks = parts.tail.number();
     parts.loose = parts.tail.address() % 4096;

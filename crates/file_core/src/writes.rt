@@ -42,6 +42,7 @@ pub(crate) fn grow<H: Host>(
     ensures shown { IsTrue H.tells → OnOk result (H.View.content view.old ≡ (H.disk host.old).files file → H.View.content view.new ≡ (H.disk host.new).files file) }
     ensures aside { IsTrue H.tells → Aside file (H.disk host.old) (H.disk host.new) }
     ensures failed { OnErr result (risen (H.faults host.old) ≤ H.faults host.new) }
+    ensures clock { (H.disk host.old).moment ≤ (H.disk host.new).moment }
     ensures counts { H.faults host.old ≤ H.faults host.new }
     ensures untroubled { OnOk result (H.faults host.new ≡ H.faults host.old) }
     ensures view_count { H.View.faults view.new ≡ H.View.faults view.old }
