@@ -4,8 +4,13 @@
 //! bytes that went out and those that stay are exactly the records put, one behind another.
 #![tactic(auto)]
 
+mod laws;
 mod reading;
 mod tail;
 
+pub use laws::{
+    blocks_keep_records, pads_keep_records, put_stands, puts_keep_records, written_is_read,
+    written_is_scanned,
+};
 pub use reading::read;
 pub use tail::Tail;

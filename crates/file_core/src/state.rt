@@ -1,8 +1,7 @@
-ghost use Rattle.std.specs.Prelude.{◌≡◌, ◌≤◌, ℕ, length, List, IsTrue, IfOk, IfErr, OnOk, Some, Err};
+ghost use Rattle.std.specs.Prelude.{◌≡◌, ◌≤◌, ℕ, List, IsTrue, IfOk, IfErr, OnOk, Some, Err};
 ghost use Rattle.block_host.specs.Calls.{Reads};
 ghost use Rattle.block_host.specs.Disk.{risen};
 ghost use Rattle.doc_stream.specs.Causes.{BreaksRecord};
-ghost use Rattle.forest_model.specs.Blocks.{File};
 ghost use Rattle.forest_model.specs.Step.{step_with_room};
 ghost use Rattle.forest_model.specs.declared.call.Call.TheVariants as Call;
 ghost use Rattle.forest_model.specs.declared.call.Reply.TheVariants as Reply;
@@ -14,7 +13,6 @@ ghost use Rattle.file_core.specs.Held.{held};
 ghost use Rattle.file_core.specs.Lookup.{FindsRecord, IsNumbered, layout_of};
 ghost use Rattle.file_core.specs.Reads.{ReadsFrom};
 ghost use Rattle.file_core.specs.Stands.{Stands};
-ghost use Rattle.file_core.specs.Updates.{StandsAt, UpdatesAs, Aside, moment_of};
 
 use crate::Parts;
 use crate::reads::{entry_of_key, entry_of_number, find_record, info_of};
@@ -162,26 +160,5 @@ impl<H: Host> FileState<H> {
         let Parts { mut host, view, .. } = parts;
         host.absorb_view(view);
         host
-    }
-
-    /// Sets a key, and answers the number that its document draws.
-    pub fn set(
-        &mut self,
-        at: &StoreRef,
-        key: &[u8],
-        meta: &[u8],
-        body: &[u8],
-    ) -> Result<u64, Refusal>
-        ensures updates { (s : State) (f : File) → StandsAt H.tells (moment_of (H.disk self.old.parts.host) (H.View.content self.old.parts.view) (H.faults self.old.parts.host) (H.View.faults self.old.parts.view) self.old.parts) s
-            → length f ≡ self.old.parts.blocks
-            → UpdatesAs H.tells Reply.Seq s f (Call.Set at.now key.now meta.now body.now)
-            (moment_of (H.disk self.old.parts.host) (H.View.content self.old.parts.view) (H.faults self.old.parts.host) (H.View.faults self.old.parts.view) self.old.parts)
-            (moment_of (H.disk self.new.parts.host) (H.View.content self.new.parts.view) (H.faults self.new.parts.host) (H.View.faults self.new.parts.view) self.new.parts)
-            result }
-        ensures stopped { (faults : ℕ) → self.old.parts.stopped ≡ Some faults → result ≡ Err (Refusal.Stopped faults) }
-        ensures aside { IsTrue H.tells → Aside self.old.parts.revision (H.disk self.old.parts.host) (H.disk self.new.parts.host) }
-    {
-        let _unused = (at.store, key.len(), meta.len(), body.len());
-        Err(Refusal::NoMemory)
     }
 }
