@@ -5,5 +5,8 @@
 #![tactic(auto)]
 
 mod committing;
+mod disk;
+mod header;
+mod rows;
 
 pub use committing::commit;

@@ -1,0 +1,6 @@
+pub mod Headers
+pub mod SealedBytes
+pub mod SameRows
+pub mod Padded
+pub mod NothingNew
+pub mod Grown
