@@ -30,7 +30,7 @@ join false b t u = t
 
 not_none : (xs : List ℕ) → xs ≢ [] → (length xs == 0) ≡ false
 not_none [] some = absurd (some refl)
-not_none (x ∷ xs) some = refl
+not_none (x ∷ xs) some = grind (arith, nat_tests)
 
 pub open_records : (revision : ℕ) (tail : OpenBlock) (block : Option Block) → IsOpenBlock revision tail block → IsTrue (list_all is_records (bytes_of (listed block)))
 open_records revision tail None is_open = refl

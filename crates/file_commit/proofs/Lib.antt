@@ -4,3 +4,5 @@ pub mod SameRows
 pub mod Padded
 pub mod NothingNew
 pub mod Grown
+pub mod CommitStands
+pub mod Commits

@@ -21,16 +21,3 @@ same_from xs ys n t x_within y_within tested =
     let x = at_place xs n x_within in
     let y = at_place ys n y_within in
     (λ i. are_same_rows (x.2 i) (y.2 i)) ∙ ap (λ (b : Bool). b && are_same_rows (drop (n + 1) xs) (drop (n + 1) ys)) (sym (tested x.0 y.0 x.1 y.1))
-
-pub past_end : (xs ys : List StoreRow) (n : ℕ) → length xs ≤ n → length ys ≤ n → are_same_rows (drop n xs) (drop n ys) ≡ true
-past_end [] [] zero x y = refl
-past_end [] [] (suc n) x y = refl
-past_end [] (b ∷ ys) zero x y = absurd (omega (arith, y))
-past_end [] (b ∷ ys) (suc n) x y = past_end [] ys n (omega arith) (omega (arith, y))
-past_end (a ∷ xs) [] zero x y = absurd (omega (arith, x))
-past_end (a ∷ xs) [] (suc n) x y = past_end xs [] n (omega (arith, x)) (omega arith)
-past_end (a ∷ xs) (b ∷ ys) zero x y = absurd (omega (arith, x))
-past_end (a ∷ xs) (b ∷ ys) (suc n) x y = past_end xs ys n (omega (arith, x)) (omega (arith, y))
-
-pub other_length : (xs ys : List StoreRow) → length xs ≢ length ys → are_same_rows xs ys ≡ false
-other_length xs ys n = unequal is_same_row xs ys n
