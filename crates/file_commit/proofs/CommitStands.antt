@@ -1,18 +1,16 @@
 -- The file stands for the state after a commit.
-use Rattle.std.proofs.Common.{◌≡◌, ◌≢◌, ℕ, ◌+◌, ◌*◌, ◌^◌, ◌≤◌, ◌<◌, suc, Bool, true, false, cond, List, [], ◌∷◌, ◌++◌, length, map, Option, Some, None, Ok, Err, refl, sym, ap, subst, ◌∙◌, arith, inl, inr, length-append, append_assoc}
-use Rattle.std.specs.Prelude.{◌==◌, ◌⊎◌, ◌↔◌, ◌||◌, IsTrue, MatchBool, MatchResult, Result, nat_le, nat_lt, if◌then◌else◌}
+use Rattle.std.proofs.Common.{◌≡◌, ℕ, ◌+◌, ◌*◌, ◌≤◌, ◌<◌, Bool, true, false, List, [], ◌∷◌, ◌++◌, length, Option, Some, None, refl, sym, ap, subst, ◌∙◌, arith, inl, inr, length-append}
+use Rattle.std.specs.Prelude.{◌==◌, ◌⊎◌, IsTrue, MatchBool, if◌then◌else◌}
 use Rattle.std.specs.Option.{option_map_or}
 use Rattle.std.specs.FinMap as finite
 use Rattle.std.proofs.lemmas.Bool.{eq-eqb}
 use Rattle.std.proofs.lemmas.Bool.Decides.{nat_tests}
-use Rattle.block_host.specs.Disk.{Disk}
 use Rattle.block_host.specs.Sealed.{IsSealed}
 use Rattle.block_host.specs.declared.block.Block.{Block}
 use Rattle.doc_stream.specs.OpenBlock.{OpenBlock}
 use Rattle.doc_stream.specs.Reading.{RecordAt}
-use Rattle.forest_model.specs.Blocks.{File, last_header, wal_from}
+use Rattle.forest_model.specs.Blocks.{File}
 use Rattle.forest_model.specs.Documents.{Map, doc_at}
-use Rattle.forest_model.specs.Limits.{any_worn, is_worn}
 use Rattle.forest_model.specs.Run.{FileAfter, AddsCommit, Grows, link_to}
 use Rattle.forest_model.specs.State.{IsState, nothing_new}
 use Rattle.forest_model.specs.Step.{Outcome, committed, step_of}
@@ -30,7 +28,7 @@ use Rattle.model_laws.specs.Laws.{RulesStay, NothingNewMeans}
 use Rattle.file_core.specs.Held.{Held}
 use Rattle.file_core.specs.Stands.{Stands, AreDocuments, HasDocument, IsKept, put_of, SameAtSameNumber}
 use Rattle.file_core.specs.Updates.{Moment, StandsAt, IsFile, bytes_of}
-use Rattle.file_commit.specs.Committing.{listed, IsOpenBlock, header_after, held_after, CommitsFile}
+use Rattle.file_commit.specs.Committing.{listed, IsOpenBlock, CommitsFile}
 use Rattle.file_commit.proofs.Grown.{length-bytes_of, bytes-append, open_records, open_count, Grown, grown_is, adds}
 
 -- ---- what the crate of records promises

@@ -1,27 +1,25 @@
 -- A commit answers what the step answers.
-use Rattle.std.proofs.Common.{◌≡◌, ◌≢◌, ℕ, ◌+◌, ◌^◌, ◌≤◌, ◌<◌, Bool, true, false, cond, List, [], ◌∷◌, ◌++◌, Option, Some, None, Ok, Err, refl, sym, ap, subst, ◌∙◌, arith, inl, inr}
-use Rattle.std.specs.Prelude.{◌==◌, ◌⊎◌, ◌&&◌, ◌||◌, not, IsTrue, MatchBool, MatchResult, IfOk, IfErr, Result, nat_lt, if◌then◌else◌}
-use Rattle.std.specs.FinMap as finite
+use Rattle.std.proofs.Common.{◌≡◌, ◌≢◌, ℕ, ◌+◌, ◌^◌, ◌≤◌, ◌<◌, Bool, true, false, List, [], ◌∷◌, Some, Ok, Err, refl, sym, ap, subst, ◌∙◌, arith, inl, inr}
+use Rattle.std.specs.Prelude.{◌==◌, ◌&&◌, ◌||◌, not, MatchBool, Result, nat_lt, if◌then◌else◌}
 use Rattle.std.proofs.lemmas.Bool.Decides.{nat_tests}
-use Rattle.block_host.specs.Disk.{Disk, Image, risen}
+use Rattle.block_host.specs.Disk.{Image}
 use Rattle.block_host.specs.declared.block.Block.{Block}
-use Rattle.forest_model.specs.Blocks.{File, last_header}
+use Rattle.forest_model.specs.Blocks.{File}
 use Rattle.forest_model.specs.Limits.{any_worn}
 use Rattle.forest_model.specs.Run.{FileAfter, Grows}
 use Rattle.forest_model.specs.State.{nothing_new}
 use Rattle.forest_model.specs.Step.{Outcome, ◌where_holds◌, first_cause, refused_or, committed, step_of}
 use Rattle.forest_model.specs.declared.call.Call.TheVariants as calls
-use Rattle.forest_model.specs.declared.call.Reply.{Reply}
 use Rattle.forest_model.specs.declared.call.Reply.TheVariants.{Committed, Refused}
 use Rattle.forest_model.specs.declared.call.StoreRef.{StoreRef}
 use Rattle.forest_model.specs.declared.refusal.Refusal.{Refusal}
-use Rattle.forest_model.specs.declared.refusal.Refusal.TheVariants.{ReadOnly, Worn, DiskFault}
+use Rattle.forest_model.specs.declared.refusal.Refusal.TheVariants.{ReadOnly, Worn}
 use Rattle.forest_model.specs.declared.state.State.{State}
 use Rattle.model_laws.specs.Laws.{RulesStay, NothingNewMeans}
 use Rattle.file_core.specs.Held.{Held}
 use Rattle.file_core.specs.Stands.{Stands}
-use Rattle.file_core.specs.Updates.{Moment, StandsAt, IsFile, CommitsAs, Troubled, bytes_of}
-use Rattle.file_commit.specs.Committing.{are_same_rows, is_commit_worn, is_far, Stays, CommitGives, CommitAnswers}
+use Rattle.file_core.specs.Updates.{Moment, StandsAt, IsFile, CommitsAs}
+use Rattle.file_commit.specs.Committing.{is_commit_worn, is_far, Stays, CommitGives, CommitAnswers}
 use Rattle.file_commit.proofs.Headers.{header-below}
 use Rattle.file_commit.proofs.NothingNew.{nothing_is}
 use Rattle.file_commit.proofs.CommitStands.{PadsKeep, BlocksKeep, file_after, commit_stands, commit_grows, commit_file}
@@ -105,9 +103,11 @@ module _ (told : Bool) (at : StoreRef) (old new : Moment) (s : State) (f : File)
     done = (
       ap (λ (o : Outcome). o.0) step ∙ ap Committed (sym stands.commit),
       subst (λ (o : Outcome). StandsAt told new o.1) (sym step) (kept_stands same),
-      (f,
-      subst (λ (o : Outcome). FileAfter s f (Some (calls.Commit at)) o.1 f) (sym step) (subst (λ (b : Bool). MatchBool b (Grows s f (calls.Commit at) f) (f ≡ f)) (sym (not_next s.place)) refl),
-      kept_file same),
+      (
+        f,
+        subst (λ (o : Outcome). FileAfter s f (Some (calls.Commit at)) o.1 f) (sym step) (subst (λ (b : Bool). MatchBool b (Grows s f (calls.Commit at) f) (f ≡ f)) (sym (not_next s.place)) refl),
+        kept_file same,
+      ),
     );
     refused = λ other h. absurd (no_refusal _ other (sym (ap (λ (o : Outcome). o.0) step) ∙ h));
     reason = tt;
@@ -121,9 +121,11 @@ module _ (told : Bool) (at : StoreRef) (old new : Moment) (s : State) (f : File)
       done = (
         ap (λ (o : Outcome). o.0) step ∙ ap Committed (sym stands.next_commit) ∙ ap Committed (sym given.0),
         subst (λ (o : Outcome). StandsAt told new o.1) (sym step) (commit_stands rules means pads blocks told at old new s f stands was news step given.1),
-        (file_after rules means pads blocks told at old new s f stands was news step given.1,
-        subst (λ (o : Outcome). FileAfter s f (Some (calls.Commit at)) o.1 (file_after rules means pads blocks told at old new s f stands was news step given.1)) (sym step) (commit_grows rules means pads blocks told at old new s f stands was news step given.1),
-        commit_file rules means pads blocks told at old new s f stands was news step given.1),
+        (
+          file_after rules means pads blocks told at old new s f stands was news step given.1,
+          subst (λ (o : Outcome). FileAfter s f (Some (calls.Commit at)) o.1 (file_after rules means pads blocks told at old new s f stands was news step given.1)) (sym step) (commit_grows rules means pads blocks told at old new s f stands was news step given.1),
+          commit_file rules means pads blocks told at old new s f stands was news step given.1,
+        ),
       );
       refused = λ other h. absurd (no_refusal _ other (sym (ap (λ (o : Outcome). o.0) step) ∙ h));
       reason = tt;

@@ -1,6 +1,6 @@
 -- Nothing is new exactly where the tables of stores are the same.
-use Rattle.std.proofs.Common.{◌≡◌, ◌≢◌, ℕ, ◌≤◌, Bool, true, false, cond, List, [], ◌∷◌, map, Option, Some, None, refl, sym, ap, subst, ◌∙◌}
-use Rattle.std.specs.Prelude.{◌&&◌, ◌==◌, ◌↔◌, IsTrue}
+use Rattle.std.proofs.Common.{◌≡◌, ℕ, ◌≤◌, Bool, true, false, cond, List, [], ◌∷◌, map, Option, Some, None, refl, sym, ap, subst, ◌∙◌}
+use Rattle.std.specs.Prelude.{◌&&◌, ◌==◌}
 use Rattle.std.specs.Bool.{Decides}
 use Rattle.std.specs.Cmp.{IsTotalOrder}
 use Rattle.std.specs.Cmp.Lexicographic.{slice_cmp, pointwise_decides, bytes_decides}
@@ -20,7 +20,7 @@ use Rattle.forest_model.specs.declared.documents.Doc.{Doc}
 use Rattle.forest_model.specs.declared.state.State.{State}
 use Rattle.forest_model.specs.declared.state.Store.{Store}
 use Rattle.model_laws.specs.Laws.{NothingNewMeans}
-use Rattle.file_core.specs.Stands.{row_in, SameAtSameNumber, Stands}
+use Rattle.file_core.specs.Stands.{row_in, SameAtSameNumber}
 use Rattle.file_core.specs.Updates.{Moment, StandsAt}
 use Rattle.file_commit.specs.Committing.{are_same_rows}
 

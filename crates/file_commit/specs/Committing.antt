@@ -1,5 +1,5 @@
 -- What a commit does, by what an open file has in memory.
-use Rattle.std.specs.Prelude.{◌≡◌, ◌≢◌, ◌⊎◌, ℕ, ◌+◌, ◌^◌, ◌<◌, ◌≤◌, suc, Bool, ◌&&◌, ◌||◌, ◌==◌, IsTrue, List, [], ◌∷◌, ◌++◌, length, Option, Some, None, nat_eq, nat_lt, MatchBool, MatchOption, MatchResult, Result, Ok, Err}
+use Rattle.std.specs.Prelude.{◌≡◌, ◌≢◌, ℕ, ◌+◌, ◌^◌, ◌≤◌, Bool, ◌&&◌, ◌||◌, ◌==◌, IsTrue, List, [], ◌∷◌, ◌++◌, length, Option, Some, None, nat_eq, nat_lt, MatchBool, MatchOption, MatchResult, Result, Ok, Err}
 use Rattle.std.specs.Option.{option_map_or}
 use Rattle.std.specs.Cmp.Lexicographic.{pointwise}
 use Rattle.block_host.specs.Disk.{risen}
@@ -14,7 +14,6 @@ use Rattle.forest_model.specs.declared.call.StoreRef.{StoreRef}
 use Rattle.forest_model.specs.declared.refusal.Refusal.{Refusal}
 use Rattle.forest_model.specs.declared.refusal.Refusal.TheVariants.{ReadOnly, Worn, DiskFault}
 use Rattle.forest_model.specs.declared.stored.Header.{Header}
-use Rattle.header_block.specs.Layout.{header_bytes}
 use Rattle.file_core.specs.Held.{Held}
 use Rattle.file_core.specs.Updates.{Moment}
 

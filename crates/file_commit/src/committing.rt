@@ -99,13 +99,20 @@ fn commit_new<H: Host>(parts: &mut Parts<H>, stores: Stores) -> Result<u64, Refu
     ensures halts { result ≡ Err Refusal.DiskFault → parts.new.stopped ≡ Some (H.faults parts.new.host) }
 {
     let header = next_header(parts, stores);
+    let number = header.commit;
     let block = parts.tail.pad(parts.revision);
     let at = parts.tail.number();
     let sealed = sealed_header(&header, parts.revision, at);
-    match put_commit(&mut parts.host, &mut parts.view, parts.revision, block, &sealed) {
+    match put_commit(
+        &mut parts.host,
+        &mut parts.view,
+        parts.revision,
+        block,
+        &sealed,
+    ) {
         Ok(()) => {
             enter(parts, header, at);
-            Ok(parts.header.commit)
+            Ok(number)
         }
         Err(Failed) => {
             parts.stopped = Some(parts.host.faults());
@@ -119,13 +126,13 @@ fn enter<H: Host>(parts: &mut Parts<H>, header: Header, at: u64)
     requires numbers { is_commit_worn (held parts.old) ≡ false }
     requires near { at ≤ 2 ^ 40 + 1 }
     ensures held { held parts.new ≡ record (held parts.old) {
-        header = header;
-        header_at = at;
-        blocks = at + 1;
-        tail = record { number = at + 1; bytes = [] };
-        loose = 0;
-        place = parts.old.place + 1;
-        next_commit = parts.old.next_commit + 1;
+      header = header;
+      header_at = at;
+      blocks = at + 1;
+      tail = record { number = at + 1; bytes = [] };
+      loose = 0;
+      place = parts.old.place + 1;
+      next_commit = parts.old.next_commit + 1;
     } }
     ensures host { parts.new.host ≡ parts.old.host }
     ensures view { parts.new.view ≡ parts.old.view }

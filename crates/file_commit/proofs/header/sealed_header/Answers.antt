@@ -1,6 +1,4 @@
-use Rattle.std.proofs.Common.{◌≡◌, ◌^◌, ◌<◌, ◌≤◌, ℕ, List, suc, subst, Option, Some, None, arith}
-use Rattle.std.specs.Prelude.{IfSome}
-use Rattle.std.specs.Option.{option_map_or}
+use Rattle.std.proofs.Common.{ℕ, List, subst, arith}
 use Rattle.block_host.specs.Sealed.{IsSealed}
 use Rattle.header_block.specs.Layout.{header_bytes}
 use Rattle.file_commit.proofs.SealedBytes.{payload_is, tells, small_link}
