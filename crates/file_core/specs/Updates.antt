@@ -1,13 +1,15 @@
 -- What an updating call of an open file answers and changes.
-use Rattle.std.specs.Prelude.{◌≡◌, ◌≢◌, ◌⊎◌, ◌≤◌, ℕ, Bool, IsTrue, List, map, length, Some, IfOk, IfErr, Result, Err}
+use Rattle.std.specs.Prelude.{◌≡◌, ◌≢◌, ◌⊎◌, ◌≤◌, ℕ, Bool, IsTrue, List, length, map, Some, IfOk, IfErr, Result, Err}
 use Rattle.block_host.specs.Disk.{Disk, risen}
 use Rattle.block_host.specs.declared.block.Block.{Block}
 use Rattle.forest_model.specs.Blocks.{File, last_header}
 use Rattle.forest_model.specs.Run.{FileAfter, unflushed_from}
 use Rattle.forest_model.specs.Step.{step_of}
 use Rattle.forest_model.specs.declared.call.Call.{Call}
+use Rattle.forest_model.specs.declared.call.Call.TheVariants as calls
+use Rattle.forest_model.specs.declared.call.StoreRef.{StoreRef}
 use Rattle.forest_model.specs.declared.call.Reply.{Reply}
-use Rattle.forest_model.specs.declared.call.Reply.TheVariants.{Refused}
+use Rattle.forest_model.specs.declared.call.Reply.TheVariants.{Refused, Committed}
 use Rattle.forest_model.specs.declared.refusal.Refusal.{Refusal}
 use Rattle.forest_model.specs.declared.state.State.{State}
 use Rattle.file_core.specs.Held.{Held, held}
@@ -38,10 +40,6 @@ pub record Aside (revision : ℕ) (old new : Disk) : Type 0 where
   pub others : (other : ℕ) → other ≢ revision → new.files other ≡ old.files other
   pub said : new.said ≡ old.said
 
--- a count of faults rose
-abbrev pub Troubled : Moment → Moment → Type 0
-Troubled old new = (risen old.host_faults ≤ new.host_faults) ⊎ (risen old.view_faults ≤ new.view_faults)
-
 -- The blocks of the current file as the sequential store sees them: where the file is told, those that the view shows.
 -- The last header among them is the last commit's.
 pub record IsFile (told : Bool) (p : Held) (file : List Block) (f : File) : Type 0 where
@@ -50,12 +48,25 @@ pub record IsFile (told : Bool) (p : Held) (file : List Block) (f : File) : Type
   pub header : last_header f ≡ Some p.header_at
   pub from : unflushed_from f ≡ p.header.wal_from
 
--- An update answers what the step answers over a file of so many blocks, and the file stands for the state after it; a
--- refusal of the step is its answer and leaves the state. Else memory was refused, which leaves the state too, or a count
--- of faults rose.
+-- a count of faults rose
+abbrev pub Troubled : Moment → Moment → Type 0
+Troubled old new = (risen old.host_faults ≤ new.host_faults) ⊎ (risen old.view_faults ≤ new.view_faults)
+
+-- An update answers what the step answers over the current file, and the file stands for the state after it, with the blocks
+-- that the update adds; a refusal of the step is its answer and leaves the state. Else memory was refused, which leaves the
+-- state too, or a count of faults rose.
 pub record UpdatesAs {T : Type 0} (told : Bool) (reply : T → Reply) (s : State) (f : File) (call : Call) (old new : Moment) (result : Result T Refusal) : Type 0 where
   pub done : IfOk result (λ value. ((step_of s f call).0 ≡ reply value) × StandsAt told new (step_of s f call).1
-      × ((grown : File) × FileAfter s f (Some call) (step_of s f call).1 grown × IsFile told new.held new.file grown))
+    × ((grown : File) × FileAfter s f (Some call) (step_of s f call).1 grown × IsFile told new.held new.file grown))
   pub refused : (why : Refusal) → (step_of s f call).0 ≡ Refused why → result ≡ Err why
   pub reason : IfErr result (λ why. (((step_of s f call).0 ≡ Refused why) × StandsAt told new s × IsFile told new.held new.file f)
-      ⊎ ((why ≡ Refusal.NoMemory) × StandsAt told new s × IsFile told new.held new.file f) ⊎ ((why ≡ Refusal.DiskFault) × Troubled old new))
+    ⊎ ((why ≡ Refusal.NoMemory) × StandsAt told new s × IsFile told new.held new.file f)
+    ⊎ ((why ≡ Refusal.DiskFault) × Troubled old new))
+
+-- A commit is the same, but memory is never refused.
+pub record CommitsAs (told : Bool) (s : State) (f : File) (at : StoreRef) (old new : Moment) (result : Result ℕ Refusal) : Type 0 where
+  pub done : IfOk result (λ number. ((step_of s f (calls.Commit at)).0 ≡ Committed number) × StandsAt told new (step_of s f (calls.Commit at)).1
+    × ((grown : File) × FileAfter s f (Some (calls.Commit at)) (step_of s f (calls.Commit at)).1 grown × IsFile told new.held new.file grown))
+  pub refused : (why : Refusal) → (step_of s f (calls.Commit at)).0 ≡ Refused why → result ≡ Err why
+  pub reason : IfErr result (λ why. (((step_of s f (calls.Commit at)).0 ≡ Refused why) × StandsAt told new s × IsFile told new.held new.file f)
+    ⊎ ((why ≡ Refusal.DiskFault) × Troubled old new))

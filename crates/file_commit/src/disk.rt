@@ -1,0 +1,54 @@
+ghost use Rattle.std.specs.Prelude.{◌≡◌, ◌≤◌, ◌++◌, ◌∷◌, [], IsTrue, OnOk, OnErr};
+ghost use Rattle.block_host.specs.Disk.{risen};
+ghost use Rattle.file_core.specs.Updates.{Aside};
+ghost use Rattle.file_commit.specs.Committing.{listed};
+
+use block_host::{Block, Failed, Host};
+
+// Puts the open block, if there is one, at the end of the file and, once all before is on the disk, the header behind it;
+// then sets the view on the file.
+pub(crate) fn put_commit<H: Host>(
+    host: &mut H,
+    view: &mut H::View,
+    file: u64,
+    block: Option<Block>,
+    header: &Block,
+) -> Result<(), Failed>
+    ensures files { IsTrue H.tells → OnOk result ((H.disk host.new).files file ≡ (H.disk host.old).files file ++ listed block ++ header.now ∷ []) }
+    ensures shown { IsTrue H.tells → OnOk result (H.View.content view.new ≡ (H.disk host.new).files file) }
+    ensures aside { IsTrue H.tells → Aside file (H.disk host.old) (H.disk host.new) }
+    ensures failed { OnErr result (risen (H.faults host.old) ≤ H.faults host.new) }
+    ensures counts { H.faults host.old ≤ H.faults host.new }
+    ensures untroubled { OnOk result (H.faults host.new ≡ H.faults host.old) }
+    ensures view_count { H.View.faults view.new ≡ H.View.faults view.old }
+{
+    put_open_block(host, file, block)?;
+    put_header(host, file, header)?;
+    host.renew(file, view)
+}
+
+// Puts the open block, if there is one, at the end of the file, and makes sure of the file.
+fn put_open_block<H: Host>(host: &mut H, file: u64, block: Option<Block>) -> Result<(), Failed>
+    ensures files { IsTrue H.tells → OnOk result ((H.disk host.new).files file ≡ (H.disk host.old).files file ++ listed block) }
+    ensures aside { IsTrue H.tells → Aside file (H.disk host.old) (H.disk host.new) }
+    ensures failed { OnErr result (risen (H.faults host.old) ≤ H.faults host.new) }
+    ensures counts { H.faults host.old ≤ H.faults host.new }
+    ensures untroubled { OnOk result (H.faults host.new ≡ H.faults host.old) }
+{
+    if let Some(block) = block {
+        host.append(file, &[block])?;
+    }
+    host.sync(file)
+}
+
+// Puts a header at the end of the file, and makes sure of it.
+fn put_header<H: Host>(host: &mut H, file: u64, header: &Block) -> Result<(), Failed>
+    ensures files { IsTrue H.tells → OnOk result ((H.disk host.new).files file ≡ (H.disk host.old).files file ++ header.now ∷ []) }
+    ensures aside { IsTrue H.tells → Aside file (H.disk host.old) (H.disk host.new) }
+    ensures failed { OnErr result (risen (H.faults host.old) ≤ H.faults host.new) }
+    ensures counts { H.faults host.old ≤ H.faults host.new }
+    ensures untroubled { OnOk result (H.faults host.new ≡ H.faults host.old) }
+{
+    host.append(file, &[*header])?;
+    host.sync(file)
+}
