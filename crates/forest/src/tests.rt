@@ -11,8 +11,21 @@ const SCRIPT: &[u8] =
 const REPLIES: &[u8] =
     b"0 1 ok 1\n0 1 found 1 red\n0 2 commit 1\n0 2 commit 1\n0 3 ok 2\n0 4 commit 2\n0 4 found 2 green\n0 4 refused not-found\n0 5 ok 3\n0 5 found 3 ripe\n0 6 commit 3\n0 6 found 2 green\n";
 
-// The blocks of file 1 after the script, as `bench/usual_file` makes them from the format alone: of each the payload and
-// the last 32 bytes. A header stands behind the records of each commit.
+// The meta file's blocks, as `bench/usual_file` makes them from the format alone: of each the payload and the last 32 bytes.
+const META: [(&[u8], &[u8]); 2] = [
+    (
+        b"\0\0\0\0\0\0\0\x01\0\0\0\0\0\0\0\x01",
+        b"\
+            \x05\x01\0\x10\0\0\0\0\0\0\0\0\0\0\0\0\0\0\0\0\0\0\0\0\
+            \x36\x9b\x83\xde\x82\x76\xae\xbc",
+    ),
+    (
+        b"",
+        b"\0\0\0\0\0\0\0\0\0\0\0\0\0\0\0\0\0\0\0\0\0\0\0\0\0\0\0\0\0\0\0\0",
+    ),
+];
+
+// Those of file 1 after the script. Each commit adds a block of records and its header.
 const FILE: [(&[u8], &[u8]); 7] = [
     (
         b"\
@@ -95,7 +108,7 @@ const FILE: [(&[u8], &[u8]); 7] = [
 // new first appends its records, syncs, appends its header and syncs. The source gives the script's 144 bytes in 15 reads
 // of ten bytes at most, and one more finds its end; all lines that are whole by then were run. In the last row neither
 // number is reached.
-const FAULTS: [(u64, u64, u8, usize, u64); 46] = [
+const FAULTS: [(u64, u64, u8, usize, usize); 46] = [
     (1, 0, 4, 0, 1),
     (2, 0, 4, 0, 1),
     (3, 0, 4, 0, 1),
@@ -189,9 +202,9 @@ fn wanted_said(alloc: Global, replies: usize, status: u8) -> Result<Vec<u8>, All
     Ok(said)
 }
 
-// A block of file 1 has this payload, zeros behind it, and these last 32 bytes.
-fn is_block(host: &MemoryHost, at: u64, payload: &[u8], last: &[u8]) -> bool {
-    let Some(block) = host.block(1, at) else {
+// A block has this payload, zeros behind it, and these last 32 bytes.
+fn is_block(host: &MemoryHost, file: u64, at: u64, payload: &[u8], last: &[u8]) -> bool {
+    let Some(block) = host.block(file, at) else {
         return false;
     };
     let behind = block.bytes.get(payload.len()..4064).unwrap_or_default();
@@ -200,16 +213,23 @@ fn is_block(host: &MemoryHost, at: u64, payload: &[u8], last: &[u8]) -> bool {
         && block.bytes.get(4064..) == Some(last)
 }
 
-// File 1 is the first blocks of `FILE`, so many.
-fn is_file(host: &MemoryHost, count: u64) -> bool {
+// A file has these blocks and no others.
+fn is_file(host: &MemoryHost, file: u64, blocks: &[(&[u8], &[u8])]) -> bool {
     let mut at: u64 = 0;
-    for (payload, last) in FILE {
-        if at < count && !is_block(host, at, payload, last) {
+    for (payload, last) in blocks {
+        if !is_block(host, file, at, payload, last) {
             return false;
         }
         at = at.saturating_add(1);
     }
-    host.block(1, count).is_none()
+    host.block(file, at).is_none()
+}
+
+// The host has the meta file and the first blocks of `FILE`, so many, and no other file behind these.
+fn has_files(host: &MemoryHost, count: usize) -> bool {
+    is_file(host, 0, &META)
+        && is_file(host, 1, FILE.get(..count).unwrap_or_default())
+        && host.block(2, 0).is_none()
 }
 
 #[test]
@@ -224,7 +244,7 @@ fn each_call_of_the_host_and_each_read_of_the_source_fails(rt: HostRuntime) -> R
             "at call {call}, read {read}"
         );
         assert!(rt;
-            is_file(&played.host, blocks),
+            has_files(&played.host, blocks),
             "at call {call}, read {read}"
         );
     }
@@ -248,6 +268,6 @@ fn the_file_of_usual_use(rt: HostRuntime) -> Result<(), Fail> {
     let alloc = rt.alloc();
     let mut source = MemorySource::new(b"0 set apple red\n0 commit\n0 get apple\n".to_vec(alloc)?);
     let played = run(alloc, &mut source, MemoryHost::formatted(alloc)?)?;
-    assert!(rt; is_file(&played.host, 3));
+    assert!(rt; has_files(&played.host, 3));
     Ok(())
 }
