@@ -1,5 +1,6 @@
-ghost use Rattle.std.specs.Prelude.{◌≡◌, ◌≤◌, ◌<◌, ℕ, Bool, List, length, slice_get, Some, IsTrue, MatchOption};
-ghost use Rattle.node_page.specs.Nodes.{Entry, IsNode, rises};
+ghost use Rattle.std.specs.Prelude.{◌≡◌, ◌+◌, ◌*◌, ◌≤◌, ◌<◌, ℕ, Bool, List, length, slice_get, Some, IsTrue, MatchOption};
+ghost use Rattle.node_page.specs.Nodes.{Entry, IsNode, node_head, rises};
+ghost use Rattle.node_page.specs.Reading.{HasHead, entries_in};
 ghost use Rattle.node_page.specs.declared.node.NodeHead.{NodeHead};
 
 use crate::Page;
@@ -18,8 +19,12 @@ pub fn leaf_from(entries: &[(u64, u64)], leaf: bool) -> Page
     requires rise { IsTrue (rises entries.now) }
     ensures { IsNode result leaf entries.now }
 {
-    let _unused = (entries.len(), leaf);
-    Page::of(b"")
+    let mut page = Page::of(&head_bytes(leaf, entries.len() as u16));
+    for (chunk, value) in entries {
+        page.add_long(*chunk);
+        page.add_long(*value);
+    }
+    page
 }
 
 /// What node a page is; None exactly where it is none.
@@ -27,8 +32,13 @@ pub fn node_of(page: &Page) -> Option<NodeHead>
     ensures cases { MatchOption result ((leaf : Bool) (entries : List Entry) → IsNode page.now leaf entries → ⊥) (λ head. (entries : List Entry) × (head.count ≡ length entries) × IsNode page.now head.leaf entries) }
     ensures exact { (leaf : Bool) (entries : List Entry) → IsNode page.now leaf entries → result ≡ Some (record { leaf = leaf; count = length entries }) }
 {
-    let _unused = page.len;
-    None
+    let head = head_of(page)?;
+    let behind = 2 + 2 * usize::from(head.count);
+    if are_rising(page, head.count) && page.is_zero_from(behind) {
+        Some(head)
+    } else {
+        None
+    }
 }
 
 /// The chunk and the value of an entry of a node, counted from 0.
@@ -36,6 +46,46 @@ pub fn entry(page: &Page, n: u16) -> (u64, u64)
     requires { n < 253 }
     ensures { (leaf : Bool) (entries : List Entry) → IsNode page.now leaf entries → n < length entries → slice_get entries n ≡ Some result }
 {
-    let _unused = (page.len, n);
-    (0, 0)
+    let at = 16 + 16 * usize::from(n);
+    (page.long_at(at), page.long_at(at + 8))
+}
+
+fn head_bytes(leaf: bool, count: u16) -> [u8; 16]
+    ensures { result ≡ node_head leaf count }
+{
+    let mut head = [0; 16];
+    head[0] = if leaf { 1 } else { 2 };
+    head[2..4].copy_from_slice(&count.to_be_bytes());
+    head
+}
+
+// The head at the front of a page, if it has one of a node of this length.
+fn head_of(page: &Page) -> Option<NodeHead>
+    ensures { MatchOption result ((leaf : Bool) (count : ℕ) → HasHead page.now leaf count → ⊥) (λ head. HasHead page.now head.leaf head.count) }
+{
+    let leaf = page.bytes[0] == 1;
+    let count = u16::from_be_bytes([page.bytes[2], page.bytes[3]]);
+    let fits = 1 <= count && count <= 253 && page.len == 16 + 16 * count;
+    if fits && &page.bytes[..16] == head_bytes(leaf, count).as_slice() {
+        Some(NodeHead { leaf, count })
+    } else {
+        None
+    }
+}
+
+// Whether the chunks of so many entries strictly rise.
+fn are_rising(page: &Page, count: u16) -> bool
+    requires some { 1 ≤ count }
+    requires most { count ≤ 253 }
+    ensures { result ≡ rises (entries_in count page.now.bytes) }
+{
+    let mut last = page.long_at(16);
+    for n in 1..count {
+        let chunk = page.long_at(16 + 16 * usize::from(n));
+        if chunk <= last {
+            return false;
+        }
+        last = chunk;
+    }
+    true
 }

@@ -1,0 +1,6 @@
+mod Parts
+mod Longs
+mod Rising
+mod Written
+mod NodeParts
+mod StemParts
