@@ -4,3 +4,4 @@ mod Rising
 mod Written
 mod NodeParts
 mod StemParts
+mod RowOfEntries

@@ -13,3 +13,6 @@ mod writing;
 pub use node::{NodeHead, entry, leaf_from, node_of};
 pub use page::Page;
 pub use stem::{skipped, stem_from, stem_of};
+
+#[cfg(test)]
+mod tests;
