@@ -1,8 +1,8 @@
 -- Numbers of 8 bytes: that they are read back, and where they are zero.
-use Rattle.std.proofs.Common.{◌≡◌, ◌<◌, ◌≤◌, ◌+◌, ◌-◌, ◌*◌, ◌^◌, ℕ, zero, suc, Bool, true, ◌&&◌, List, [], ◌∷◌, ◌++◌, length, take, drop, get_or, replicate, refl, sym, ◌∙◌, ap, arith, append_assoc, length-append, length-drop, length-take, take-append-drop}
+use Rattle.std.proofs.Common.{◌≡◌, ◌<◌, ◌≤◌, ◌+◌, ◌-◌, ◌*◌, ◌^◌, ℕ, true, List, [], ◌∷◌, ◌++◌, length, take, drop, replicate, refl, sym, ◌∙◌, ap, arith, append_assoc, length-append, length-drop, take-append-drop}
 use Rattle.std.specs.Int.{w64, from_be_bytes, to_be_bytes}
 use Rattle.std.proofs.lemmas.Bool.{and_parts, and_from, ltb-true, lt-ltb}
-use Rattle.std.proofs.lemmas.List.{take_at, drop_at, drop-drop, drop_all, take-replicate, drop-replicate, replicate-append-replicate, length-take-le}
+use Rattle.std.proofs.lemmas.List.{take_at, drop_at, drop-drop, drop_all, drop-replicate, replicate-append-replicate, length-take-le}
 use Rattle.std.proofs.lemmas.Nat.{be_bytes_8, from_be_bytes-to_be_bytes_8}
 use Rattle.node_page.specs.Nodes.{Entry, long, entry_bytes, fits}
 use Rattle.node_page.specs.Stems.{is_long}
@@ -80,28 +80,41 @@ long_zero = refl
 zero_long : (rest : List ℕ) → long_in (replicate 8 0 ++ rest) ≡ 0
 zero_long rest = ap (λ (bs : List ℕ). long_in (bs ++ rest)) (sym long_zero) ∙ long_back 0 rest (omega arith)
 
+-- zeros, and zeros behind them
+joined : (k n : ℕ) (bytes : List ℕ) → take k bytes ≡ replicate k 0 → drop k bytes ≡ replicate n 0 → bytes ≡ replicate (k + n) 0
+joined k n bytes front back =
+    sym (take-append-drop k bytes)
+    ∙ ap (λ (bs : List ℕ). bs ++ drop k bytes) front
+    ∙ ap (λ (bs : List ℕ). replicate k 0 ++ bs) back
+    ∙ replicate-append-replicate k n 0
+
 -- zeros from a place on, if the number there is zero and from the next one on there are zeros
 pub zero_more : (bytes : List ℕ) (n : ℕ) → AreBytes bytes → length bytes ≡ 4064 → n < 508 → long_in (drop (8 * n) bytes) ≡ 0 → IsZeroFrom (8 * (n + 1)) bytes → IsZeroFrom (8 * n) bytes
 zero_more bytes n are whole within here behind =
     let rest = drop (8 * n) bytes in
-    let front : take 8 rest ≡ replicate 8 0 = sym (long_forth rest (bytes_drop (8 * n) bytes are) (omega (arith, length-drop (8 * n) bytes))) ∙ ap long here ∙ long_zero in
+    let long_enough : 8 ≤ length rest = omega (arith, length-drop (8 * n) bytes) in
+    let front : take 8 rest ≡ replicate 8 0 = sym (long_forth rest (bytes_drop (8 * n) bytes are) long_enough) ∙ ap long here ∙ long_zero in
     let next : 8 * n + 8 ≡ 8 * (n + 1) = omega arith in
+    let back : drop 8 rest ≡ replicate (4064 - 8 * (n + 1)) 0 = drop-drop 8 (8 * n) bytes ∙ ap (λ (k : ℕ). drop k bytes) next ∙ behind in
     let count : 8 + (4064 - 8 * (n + 1)) ≡ 4064 - 8 * n = omega arith in
-    sym (take-append-drop 8 rest)
-    ∙ ap (λ (bs : List ℕ). bs ++ drop 8 rest) front
-    ∙ ap (λ (bs : List ℕ). replicate 8 0 ++ bs) (drop-drop 8 (8 * n) bytes ∙ ap (λ (k : ℕ). drop k bytes) next ∙ behind)
-    ∙ replicate-append-replicate 8 (4064 - 8 * (n + 1)) 0
+    joined 8 (4064 - 8 * (n + 1)) rest front back ∙ ap (λ (k : ℕ). replicate k 0) count
+
+-- zeros from a place on, seen from a later place
+later_zeros : (all at more n : ℕ) (bytes : List ℕ) → drop at bytes ≡ replicate all 0 → all - more ≡ 8 + n → drop (at + more) bytes ≡ replicate 8 0 ++ replicate n 0
+later_zeros all at more n bytes zeros count =
+    sym (drop-drop more at bytes)
+    ∙ ap (λ (bs : List ℕ). drop more bs) zeros
+    ∙ drop-replicate more all 0
     ∙ ap (λ (k : ℕ). replicate k 0) count
+    ∙ sym (replicate-append-replicate 8 n 0)
 
 -- where there are zeros from a place on, each number is zero
 pub zero_there : (bytes : List ℕ) (first n : ℕ) → first ≤ n → n < 508 → IsZeroFrom (8 * first) bytes → long_in (drop (8 * n) bytes) ≡ 0
 zero_there bytes first n above within zeros =
-    let place : 8 * first + 8 * (n - first) ≡ 8 * n = omega arith in
+    let place : 8 * n ≡ 8 * first + 8 * (n - first) = omega arith in
     let count : 4064 - 8 * first - 8 * (n - first) ≡ 8 + (4064 - 8 * n - 8) = omega arith in
-    let there : drop (8 * n) bytes ≡ replicate 8 0 ++ replicate (4064 - 8 * n - 8) 0 =
-    ap (λ (k : ℕ). drop k bytes) (sym place) ∙ sym (drop-drop (8 * (n - first)) (8 * first) bytes) ∙ ap (drop (8 * (n - first))) zeros
-    ∙ drop-replicate (8 * (n - first)) (4064 - 8 * first) 0 ∙ ap (λ (k : ℕ). replicate k 0) count ∙ sym (replicate-append-replicate 8 (4064 - 8 * n - 8) 0) in
-    ap long_in there ∙ zero_long (replicate (4064 - 8 * n - 8) 0)
+    let there = later_zeros (4064 - 8 * first) (8 * first) (8 * (n - first)) (4064 - 8 * n - 8) bytes zeros count in
+    ap (λ (k : ℕ). long_in (drop k bytes)) place ∙ ap long_in there ∙ zero_long (replicate (4064 - 8 * n - 8) 0)
 
 -- nothing stands behind the end
 pub zero_at_end : (bytes : List ℕ) (n : ℕ) → length bytes ≡ 4064 → 508 ≤ n → IsZeroFrom (8 * n) bytes

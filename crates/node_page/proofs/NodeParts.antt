@@ -1,17 +1,14 @@
 -- What a page has that is a node, and that such a page is one.
-use Rattle.std.proofs.Common.{◌≡◌, ◌<◌, ◌≤◌, ◌+◌, ◌-◌, ◌*◌, ◌^◌, ℕ, Bool, true, false, List, [], ◌∷◌, ◌++◌, length, take, drop, get_or, replicate, Some, refl, sym, subst, ◌∙◌, ap, arith, append_assoc, length-append, length-drop, cond}
-use Rattle.std.specs.Bool.{IsTrue}
-use Rattle.std.specs.Int.{w16, to_be_bytes}
-use Rattle.std.specs.List.{list_all, flat_map, slice_get}
-use Rattle.std.proofs.lemmas.Bool.{ltb-true, lt-ltb}
-use Rattle.std.proofs.lemmas.List.{take_at, drop-drop, drop-take}
-use Rattle.node_page.specs.Nodes.{Entry, IsNode, entry_bytes, fits, long, node_bytes, node_head, rises}
+use Rattle.std.proofs.Common.{◌≡◌, ◌<◌, ◌+◌, ◌*◌, ℕ, Bool, true, false, List, ◌++◌, length, drop, get_or, Some, refl, sym, subst, ◌∙◌, ap, arith, length-drop, cond}
+use Rattle.std.specs.List.{flat_map, slice_get}
+use Rattle.std.proofs.lemmas.List.{drop-drop}
+use Rattle.node_page.specs.Nodes.{Entry, IsNode, entry_bytes, fits, node_head, rises}
 use Rattle.node_page.specs.Pages.{IsPage}
-use Rattle.node_page.specs.Reading.{AreBytes, HasHead, IsZeroFrom, entries_in, entry_in, long_in, parts_in}
+use Rattle.node_page.specs.Reading.{AreBytes, HasHead, IsZeroFrom, entries_in, entry_in, long_in}
 use Rattle.node_page.specs.declared.node.NodeHead.{NodeHead}
 use Rattle.node_page.specs.declared.page.Page.{Page}
 use Rattle.node_page.proofs.Parts.{Holds, bytes_drop, holds, length_parts, made, part_at, parts_fit}
-use Rattle.node_page.proofs.Longs.{entry_codec, long_back, long_codec, long_forth, length-long}
+use Rattle.node_page.proofs.Longs.{entry_codec}
 
 length-head : (leaf : Bool) (count : ℕ) → length (node_head leaf count) ≡ 16
 length-head leaf count = refl

@@ -1,5 +1,5 @@
 -- Parts of one size, one behind another, and what is read of them.
-use Rattle.std.proofs.Common.{◌≡◌, ◌<◌, ◌≤◌, ◌+◌, ◌-◌, ◌*◌, ℕ, zero, suc, Bool, true, List, [], ◌∷◌, ◌++◌, length, take, drop, get_or, replicate, Some, refl, sym, ◌∙◌, ap, arith, append_assoc, length-append, length-drop, length-take, take-append-drop}
+use Rattle.std.proofs.Common.{◌≡◌, ◌<◌, ◌≤◌, ◌+◌, ◌-◌, ◌*◌, ℕ, zero, suc, Bool, true, List, [], ◌∷◌, ◌++◌, length, take, drop, get_or, replicate, Some, refl, sym, ◌∙◌, ap, arith, append_assoc, length-append, length-drop, take-append-drop}
 use Rattle.std.proofs.lemmas.Bool.{and_parts, and_from}
 use Rattle.std.proofs.lemmas.List.{take_at, drop_at, take-take, drop-take, drop-drop, get_or-drop}
 use Rattle.std.specs.List.{list_all, flat_map, slice_get}
@@ -103,8 +103,8 @@ module _ {A : Type 0} (write : A → List ℕ) (read : List ℕ → A) (fits : A
   pub holds : (front : List ℕ) (xs : List A) (page : Page) → length front ≡ 16 → list_all fits xs ≡ true → IsPage (front ++ flat_map write xs) page → Holds read size front xs page
   holds front xs page sixteen fit is =
       let written = flat_map write xs in
-      let n = 4064 - length (front ++ written) in
-      let zeros = replicate n 0 in
+      let n : ℕ = 4064 - length (front ++ written) in
+      let zeros : List ℕ = replicate n 0 in
       let counted : length (front ++ written) ≡ 16 + size * length xs = length-append front written ∙ omega (arith, length_written write read fits size codec xs) in
       let bytes : page.bytes ≡ front ++ (written ++ zeros) = is.bytes ∙ append_assoc front written zeros in
       record {

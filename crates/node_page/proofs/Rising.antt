@@ -1,11 +1,11 @@
 -- Chunks that rise, seen one behind another.
-use Rattle.std.proofs.Common.{◌≡◌, ◌<◌, ◌≤◌, ◌+◌, ◌*◌, ℕ, suc, Bool, true, false, ◌&&◌, List, [], ◌∷◌, length, drop, add-one, refl, sym, ◌∙◌, ap, arith}
+use Rattle.std.proofs.Common.{◌≡◌, ◌<◌, ◌≤◌, ◌+◌, ◌*◌, ℕ, Bool, true, false, ◌&&◌, List, [], ◌∷◌, drop, add-one, refl, sym, ◌∙◌, ap, arith}
 use Rattle.std.specs.Prelude.{nat_lt}
 use Rattle.std.specs.List.{list_all}
 use Rattle.std.proofs.lemmas.Bool.{and_parts, and_from, ltb-true, lt-ltb, le-ltb}
 use Rattle.std.proofs.lemmas.List.{drop_all, drop-drop}
 use Rattle.node_page.specs.Nodes.{Entry, rises}
-use Rattle.node_page.specs.Reading.{long_in, entry_in, entries_in, parts_in}
+use Rattle.node_page.specs.Reading.{long_in, entry_in, entries_in}
 use Rattle.node_page.proofs.Parts.{drop_parts, length_parts}
 
 -- each chunk is above the one before it, and the first one above this

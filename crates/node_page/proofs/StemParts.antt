@@ -1,7 +1,7 @@
 -- What a page has that is a stem, and that such a page is one.
-use Rattle.std.proofs.Common.{◌≡◌, ◌<◌, ◌≤◌, ◌+◌, ◌*◌, ◌^◌, ℕ, Bool, true, false, List, ◌++◌, length, take, drop, Some, sym, subst, ◌∙◌, ap, arith, take-append-drop, length-append, length-drop}
-use Rattle.std.specs.List.{list_all, flat_map, slice_get}
-use Rattle.std.proofs.lemmas.Bool.{ltb-true, lt-ltb, and_from}
+use Rattle.std.proofs.Common.{◌≡◌, ◌<◌, ◌≤◌, ◌+◌, ◌*◌, ◌^◌, ℕ, List, ◌++◌, length, take, drop, Some, sym, subst, ◌∙◌, ap, arith, take-append-drop, length-append, length-drop}
+use Rattle.std.specs.List.{flat_map, slice_get}
+use Rattle.std.proofs.lemmas.Bool.{lt-ltb, and_from}
 use Rattle.std.proofs.lemmas.List.{drop-drop}
 use Rattle.node_page.specs.Nodes.{Entry, entry_bytes, long}
 use Rattle.node_page.specs.Pages.{IsPage}

@@ -1,5 +1,5 @@
 -- What is read at a place of a page, whatever was written there.
-use Rattle.std.specs.Prelude.{◌≡◌, ℕ, zero, suc, ◌+◌, ◌-◌, ◌*◌, ◌<◌, ◌≤◌, Bool, List, [], ◌∷◌, take, drop, replicate, length, slice_index}
+use Rattle.std.specs.Prelude.{◌≡◌, ℕ, zero, suc, ◌+◌, ◌-◌, ◌*◌, ◌<◌, ◌≤◌, Bool, List, [], ◌∷◌, take, drop, replicate, slice_index}
 use Rattle.std.specs.Int.{w64, from_be_bytes}
 use Rattle.node_page.specs.Nodes.{Entry, node_head}
 use Rattle.node_page.specs.declared.page.Page.{Page}

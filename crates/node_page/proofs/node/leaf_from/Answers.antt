@@ -1,4 +1,4 @@
-use Rattle.std.proofs.Common.{◌≡◌, ◌++◌, true, ℕ, List, [], length, take, get_or, arith, refl, sym, subst, ap, ◌∙◌, append_assoc}
+use Rattle.std.proofs.Common.{◌≡◌, ◌++◌, true, ℕ, List, length, take, get_or, arith, refl, sym, subst, ap, ◌∙◌, append_assoc}
 use Rattle.std.specs.List.{flat_map, list_all}
 use Rattle.std.proofs.lemmas.List.{append-nil, take_all}
 use Rattle.node_page.specs.Nodes.{Entry, entry_bytes, fits, long, node_head}

@@ -1,4 +1,4 @@
-use Rattle.std.proofs.Common.{◌≤◌, arith, rules, sym, ◌∙◌}
+use Rattle.std.proofs.Common.{rules, sym, ◌∙◌}
 use Rattle.node_page.proofs.Longs.{zero_more, zero_there, zero_at_end}
 use Rattle.node_page.proofs.page.Page.is_zero_from.Goals as goal
 
