@@ -21,7 +21,8 @@ pub long_forth : (bytes : List ℕ) → AreBytes bytes → 8 ≤ length bytes �
 unfolding long long_in
 long_forth bytes are within = be_bytes_8 (take 8 bytes) (from_be_bytes w64 (take 8 bytes)) (length-take-le 8 bytes within) (bytes_take 8 bytes are).each refl
 
-eight_small : (a b c d e f g h : ℕ) → a < 256 → b < 256 → c < 256 → d < 256 → e < 256 → f < 256 → g < 256 → h < 256 → from_be_bytes w64 (a ∷ b ∷ c ∷ d ∷ e ∷ f ∷ g ∷ h ∷ []) < 2 ^ 64
+eight_small : (a b c d e f g h : ℕ) → a < 256 → b < 256 → c < 256 → d < 256 → e < 256 → f < 256 → g < 256 → h < 256
+    → from_be_bytes w64 (a ∷ b ∷ c ∷ d ∷ e ∷ f ∷ g ∷ h ∷ []) < 2 ^ 64
 eight_small a b c d e f g h h1 h2 h3 h4 h5 h6 h7 h8 = omega arith
 
 read_small : (bs : List ℕ) → length bs ≡ 8 → AreBytes bs → from_be_bytes w64 bs < 2 ^ 64
@@ -89,7 +90,8 @@ joined k n bytes front back =
     ∙ replicate-append-replicate k n 0
 
 -- zeros from a place on, if the number there is zero and from the next one on there are zeros
-pub zero_more : (bytes : List ℕ) (n : ℕ) → AreBytes bytes → length bytes ≡ 4064 → n < 508 → long_in (drop (8 * n) bytes) ≡ 0 → IsZeroFrom (8 * (n + 1)) bytes → IsZeroFrom (8 * n) bytes
+pub zero_more : (bytes : List ℕ) (n : ℕ) → AreBytes bytes → length bytes ≡ 4064 → n < 508 → long_in (drop (8 * n) bytes) ≡ 0
+    → IsZeroFrom (8 * (n + 1)) bytes → IsZeroFrom (8 * n) bytes
 zero_more bytes n are whole within here behind =
     let rest = drop (8 * n) bytes in
     let long_enough : 8 ≤ length rest = omega (arith, length-drop (8 * n) bytes) in
@@ -100,7 +102,8 @@ zero_more bytes n are whole within here behind =
     joined 8 (4064 - 8 * (n + 1)) rest front back ∙ ap (λ (k : ℕ). replicate k 0) count
 
 -- zeros from a place on, seen from a later place
-later_zeros : (all at more n : ℕ) (bytes : List ℕ) → drop at bytes ≡ replicate all 0 → all - more ≡ 8 + n → drop (at + more) bytes ≡ replicate 8 0 ++ replicate n 0
+later_zeros : (all at more n : ℕ) (bytes : List ℕ) → drop at bytes ≡ replicate all 0 → all - more ≡ 8 + n
+    → drop (at + more) bytes ≡ replicate 8 0 ++ replicate n 0
 later_zeros all at more n bytes zeros count =
     sym (drop-drop more at bytes)
     ∙ ap (λ (bs : List ℕ). drop more bs) zeros

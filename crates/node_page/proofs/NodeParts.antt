@@ -16,7 +16,8 @@ length-head leaf count = refl
 first_byte : (leaf : Bool) (count : ℕ) → get_or (node_head leaf count) 0 0 ≡ cond leaf 1 2
 first_byte leaf count = refl
 
-pub node_holds : (page : Page) (leaf : Bool) (entries : List Entry) → IsNode page leaf entries → Holds entry_in 16 (node_head leaf (length entries)) entries page
+pub node_holds : (page : Page) (leaf : Bool) (entries : List Entry) → IsNode page leaf entries
+    → Holds entry_in 16 (node_head leaf (length entries)) entries page
 node_holds page leaf entries is = holds entry_bytes entry_in fits 16 entry_codec (node_head leaf (length entries)) entries page (length-head leaf (length entries)) is.fit is.bytes
 
 pub has_head : (page : Page) (leaf : Bool) (entries : List Entry) → IsNode page leaf entries → HasHead page leaf (length entries)
@@ -37,7 +38,9 @@ one_head page leaf other count m has had =
 words : (count : ℕ) → 8 * (2 + 2 * count) ≡ 16 + 16 * count
 words count = omega arith
 
-pub node_made : (page : Page) (leaf : Bool) (count first : ℕ) → HasHead page leaf count → AreBytes page.bytes → length page.bytes ≡ 4064 → first ≡ 2 + 2 * count → IsZeroFrom (8 * first) page.bytes → true ≡ rises (entries_in count page.bytes)
+pub node_made : (page : Page) (leaf : Bool) (count first : ℕ) → HasHead page leaf count → AreBytes page.bytes
+    → length page.bytes ≡ 4064 → first ≡ 2 + 2 * count → IsZeroFrom (8 * first) page.bytes
+    → true ≡ rises (entries_in count page.bytes)
     → (entries : List Entry) × (count ≡ length entries) × IsNode page leaf entries
 node_made page leaf count first has are whole is zeros rise =
     let entries = entries_in count page.bytes in
@@ -55,7 +58,8 @@ node_made page leaf count first has are whole is zeros rise =
       },
     )
 
-pub entry_read : (page : Page) (leaf : Bool) (entries : List Entry) (n at chunk value : ℕ) → IsNode page leaf entries → n < length entries → at ≡ 16 + 16 * n → chunk ≡ long_in (drop at page.bytes) → value ≡ long_in (drop (at + 8) page.bytes)
+pub entry_read : (page : Page) (leaf : Bool) (entries : List Entry) (n at chunk value : ℕ) → IsNode page leaf entries
+    → n < length entries → at ≡ 16 + 16 * n → chunk ≡ long_in (drop at page.bytes) → value ≡ long_in (drop (at + 8) page.bytes)
     → slice_get entries n ≡ Some (chunk, value)
 entry_read page leaf entries n at chunk value is within at_is chunk_is value_is =
     let has = node_holds page leaf entries is in
@@ -68,12 +72,14 @@ entry_read page leaf entries n at chunk value is within at_is chunk_is value_is 
     ∙ ap (λ (k : ℕ). Some (chunk, k)) (sym value_is)
 
 -- the chunks of a node rise
-pub risen : (page : Page) (leaf : Bool) (entries : List Entry) (count : ℕ) → IsNode page leaf entries → count ≡ length entries → rises (entries_in count page.bytes) ≡ true
+pub risen : (page : Page) (leaf : Bool) (entries : List Entry) (count : ℕ) → IsNode page leaf entries → count ≡ length entries
+    → rises (entries_in count page.bytes) ≡ true
 risen page leaf entries count is counted =
     ap (λ (k : ℕ). rises (entries_in k page.bytes)) counted ∙ ap rises (node_holds page leaf entries is).parts ∙ is.rise
 
 -- and behind them there are zeros
-pub node_zeros : (page : Page) (leaf : Bool) (entries : List Entry) (count first : ℕ) → IsNode page leaf entries → count ≡ length entries → first ≡ 2 + 2 * count → IsZeroFrom (8 * first) page.bytes
+pub node_zeros : (page : Page) (leaf : Bool) (entries : List Entry) (count first : ℕ) → IsNode page leaf entries
+    → count ≡ length entries → first ≡ 2 + 2 * count → IsZeroFrom (8 * first) page.bytes
 node_zeros page leaf entries count first is counted first_is =
     let place : 8 * first ≡ 16 + 16 * length entries = omega (arith, counted, first_is) in
     subst (λ (k : ℕ). IsZeroFrom k page.bytes) (sym place) (node_holds page leaf entries is).zeros

@@ -45,7 +45,8 @@ again size i bytes = drop-drop (size * i) size bytes ∙ ap (λ (k : ℕ). drop 
 first : (size : ℕ) (bytes : List ℕ) → drop (size * 0) bytes ≡ bytes
 first size bytes = ap (λ (k : ℕ). drop k bytes) (let e : size * 0 ≡ 0 = omega arith in e)
 
-pub part_at : {A : Type 0} (read : List ℕ → A) (size n i : ℕ) (bytes : List ℕ) → i < n → slice_get (parts_in read size n bytes) i ≡ Some (read (drop (size * i) bytes))
+pub part_at : {A : Type 0} (read : List ℕ → A) (size n i : ℕ) (bytes : List ℕ) → i < n
+    → slice_get (parts_in read size n bytes) i ≡ Some (read (drop (size * i) bytes))
 unfolding parts_in
 part_at {A} read size zero i bytes within = absurd (omega arith)
 part_at {A} read size (suc n) zero bytes within = ap (λ (bs : List ℕ). Some (read bs)) (sym (first size bytes))
@@ -76,7 +77,8 @@ module _ {A : Type 0} (write : A → List ℕ) (read : List ℕ → A) (fits : A
       ∙ ap (λ (bs : List ℕ). x ∷ parts_in read size (length xs) bs) (drop_at (write x) behind size (codec.long x))
       ∙ ap (λ (ys : List A). x ∷ ys) (read_back xs rest parts.1)
 
-  pub written_forth : (n : ℕ) (bytes : List ℕ) → AreBytes bytes → size * n ≤ length bytes → flat_map write (parts_in read size n bytes) ≡ take (size * n) bytes
+  pub written_forth : (n : ℕ) (bytes : List ℕ) → AreBytes bytes → size * n ≤ length bytes
+      → flat_map write (parts_in read size n bytes) ≡ take (size * n) bytes
   unfolding parts_in
   written_forth zero bytes are within = ap (λ (k : ℕ). take k bytes) (let e : 0 ≡ size * 0 = omega arith in e)
   written_forth (suc n) bytes are within =
@@ -100,7 +102,8 @@ pub record Holds {A : Type 0} (read : List ℕ → A) (size : ℕ) (front : List
   pub zeros : IsZeroFrom (16 + size * length xs) page.bytes
 
 module _ {A : Type 0} (write : A → List ℕ) (read : List ℕ → A) (fits : A → Bool) (size : ℕ) (codec : IsCodec write read fits size) where
-  pub holds : (front : List ℕ) (xs : List A) (page : Page) → length front ≡ 16 → list_all fits xs ≡ true → IsPage (front ++ flat_map write xs) page → Holds read size front xs page
+  pub holds : (front : List ℕ) (xs : List A) (page : Page) → length front ≡ 16 → list_all fits xs ≡ true
+      → IsPage (front ++ flat_map write xs) page → Holds read size front xs page
   holds front xs page sixteen fit is =
       let written = flat_map write xs in
       let n : ℕ = 4064 - length (front ++ written) in
@@ -114,7 +117,8 @@ module _ {A : Type 0} (write : A → List ℕ) (read : List ℕ → A) (fits : A
         zeros = ap (drop (16 + size * length xs)) is.bytes ∙ drop_at (front ++ written) zeros (16 + size * length xs) counted ∙ ap (λ (k : ℕ). replicate (4064 - k) 0) counted;
       }
 
-  pub made : (front : List ℕ) (n : ℕ) (page : Page) → length front ≡ 16 → 16 + size * n ≤ 4064 → AreBytes page.bytes → length page.bytes ≡ 4064 → page.len ≡ 16 + size * n → take 16 page.bytes ≡ front → IsZeroFrom (16 + size * n) page.bytes
+  pub made : (front : List ℕ) (n : ℕ) (page : Page) → length front ≡ 16 → 16 + size * n ≤ 4064 → AreBytes page.bytes
+      → length page.bytes ≡ 4064 → page.len ≡ 16 + size * n → take 16 page.bytes ≡ front → IsZeroFrom (16 + size * n) page.bytes
       → IsPage (front ++ flat_map write (parts_in read size n (drop 16 page.bytes))) page
   made front n page sixteen within are long len begins zeros =
       let xs = parts_in read size n (drop 16 page.bytes) in

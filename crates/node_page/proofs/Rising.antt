@@ -59,14 +59,16 @@ module _ (count : ℕ) (bytes : List ℕ) where
       ap (rises_above last) (here n within)
       ∙ ap (λ (k : ℕ). nat_lt last k && rises_above k (drop (n + 1) (entries_in count bytes))) (chunk_place n bytes ∙ sym is)
 
-  pub next_chunk : (n last chunk : ℕ) → RisesTo count n last bytes → n < count → chunk ≡ long_in (drop (16 + 16 * n) bytes) → last < chunk → RisesTo count (n + 1) chunk bytes
+  pub next_chunk : (n last chunk : ℕ) → RisesTo count n last bytes → n < count → chunk ≡ long_in (drop (16 + 16 * n) bytes)
+      → last < chunk → RisesTo count (n + 1) chunk bytes
   next_chunk n last chunk so_far within is less = record {
     some = omega arith;
     within = omega arith;
     decides = so_far.decides ∙ step n last chunk within is ∙ ap (λ (b : Bool). b && rises_above chunk (drop (n + 1) (entries_in count bytes))) (lt-ltb last chunk less);
   }
 
-  pub no_rise : (n last chunk : ℕ) → RisesTo count n last bytes → n < count → chunk ≡ long_in (drop (16 + 16 * n) bytes) → chunk ≤ last → false ≡ rises (entries_in count bytes)
+  pub no_rise : (n last chunk : ℕ) → RisesTo count n last bytes → n < count → chunk ≡ long_in (drop (16 + 16 * n) bytes)
+      → chunk ≤ last → false ≡ rises (entries_in count bytes)
   no_rise n last chunk so_far within is above =
       sym (so_far.decides ∙ step n last chunk within is ∙ ap (λ (b : Bool). b && rises_above chunk (drop (n + 1) (entries_in count bytes))) (le-ltb last chunk above))
 

@@ -24,7 +24,9 @@ pub record ReadsStem (page : Page) (root count : ℕ) (chunks : List ℕ) (read_
   pub len : page.len ≡ 16 + 8 * read_count
   pub zeros : IsZeroFrom (8 * (2 + read_count)) page.bytes
 
-pub stem_read : (page : Page) (root : ℕ) (chunks : List ℕ) (read_root read_count : ℕ) → IsStem page root chunks → read_root ≡ long_in page.bytes → read_count ≡ long_in (drop 8 page.bytes) → ReadsStem page root (length chunks) chunks read_root read_count
+pub stem_read : (page : Page) (root : ℕ) (chunks : List ℕ) (read_root read_count : ℕ) → IsStem page root chunks
+    → read_root ≡ long_in page.bytes → read_count ≡ long_in (drop 8 page.bytes)
+    → ReadsStem page root (length chunks) chunks read_root read_count
 stem_read page root chunks read_root read_count is root_is count_is =
     let has = stem_holds page root chunks is in
     let pair : Entry = (root, length chunks) in
@@ -40,7 +42,9 @@ stem_read page root chunks read_root read_count is root_is count_is =
       zeros = subst (λ (k : ℕ). IsZeroFrom k page.bytes) (sym place) has.zeros;
     }
 
-pub stem_made : (page : Page) (root count first : ℕ) → AreBytes page.bytes → length page.bytes ≡ 4064 → root ≡ long_in page.bytes → count ≡ long_in (drop 8 page.bytes) → count ≤ 504 → page.len ≡ 16 + 8 * count → first ≡ 2 + count → IsZeroFrom (8 * first) page.bytes
+pub stem_made : (page : Page) (root count first : ℕ) → AreBytes page.bytes → length page.bytes ≡ 4064 → root ≡ long_in page.bytes
+    → count ≡ long_in (drop 8 page.bytes) → count ≤ 504 → page.len ≡ 16 + 8 * count → first ≡ 2 + count
+    → IsZeroFrom (8 * first) page.bytes
     → (chunks : List ℕ) × (count ≡ length chunks) × IsStem page root chunks
 stem_made page root count first are whole root_is count_is most len first_is zeros =
     let chunks = parts_in long_in 8 count (drop 16 page.bytes) in
@@ -60,7 +64,8 @@ stem_made page root count first are whole root_is count_is most len first_is zer
       },
     )
 
-pub chunk_read : (page : Page) (root : ℕ) (chunks : List ℕ) (n at chunk : ℕ) → IsStem page root chunks → n < length chunks → at ≡ 16 + 8 * n → chunk ≡ long_in (drop at page.bytes) → slice_get chunks n ≡ Some chunk
+pub chunk_read : (page : Page) (root : ℕ) (chunks : List ℕ) (n at chunk : ℕ) → IsStem page root chunks → n < length chunks
+    → at ≡ 16 + 8 * n → chunk ≡ long_in (drop at page.bytes) → slice_get chunks n ≡ Some chunk
 chunk_read page root chunks n at chunk is within at_is chunk_is =
     let has = stem_holds page root chunks is in
     let place : drop (8 * n) (drop 16 page.bytes) ≡ drop at page.bytes = drop-drop (8 * n) 16 page.bytes ∙ ap (λ (k : ℕ). drop k page.bytes) (sym at_is) in

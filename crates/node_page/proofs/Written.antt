@@ -9,7 +9,8 @@ use Rattle.node_page.specs.Stems.{is_long}
 use borrow.Rule.Slice.PartMut.{put_mid}
 
 -- a part that is put behind the front
-put_behind : (n : ℕ) (front part : List ℕ) → put_mid (length front) (length part) (front ++ replicate (n - length front) 0) part ≡ (front ++ part) ++ replicate (n - length (front ++ part)) 0
+put_behind : (n : ℕ) (front part : List ℕ)
+    → put_mid (length front) (length part) (front ++ replicate (n - length front) 0) part ≡ (front ++ part) ++ replicate (n - length (front ++ part)) 0
 put_behind n front part =
     let zeros : List ℕ = replicate (n - length front) 0 in
     ap (λ (xs : List ℕ). xs ++ (part ++ drop (length part) (drop (length front) (front ++ zeros)))) (take_at front zeros (length front) refl)
@@ -28,11 +29,13 @@ put_page n front part old new from from_is old_is new_is =
     ∙ put_behind n front part
 
 -- one part more
-pub one_more : {A : Type 0} (write : A → List ℕ) (front : List ℕ) (xs : List A) (n : ℕ) (d : A) → n < length xs → (front ++ flat_map write (take n xs)) ++ write (get_or xs n d) ≡ front ++ flat_map write (take (n + 1) xs)
+pub one_more : {A : Type 0} (write : A → List ℕ) (front : List ℕ) (xs : List A) (n : ℕ) (d : A) → n < length xs
+    → (front ++ flat_map write (take n xs)) ++ write (get_or xs n d) ≡ front ++ flat_map write (take (n + 1) xs)
 one_more {A} write front xs n d within = flat_map_more write front (take n xs) (get_or xs n d) ∙ ap (λ (ys : List A). front ++ flat_map write ys) (sym (take_more xs n d within))
 
 -- one entry more that fits
-pub one_fits : (xs : List Entry) (n : ℕ) (d : Entry) → n < length xs → list_all fits (take n xs) ≡ true → (get_or xs n d).0 < 2 ^ 64 → (get_or xs n d).1 < 2 ^ 64 → list_all fits (take (n + 1) xs) ≡ true
+pub one_fits : (xs : List Entry) (n : ℕ) (d : Entry) → n < length xs → list_all fits (take n xs) ≡ true
+    → (get_or xs n d).0 < 2 ^ 64 → (get_or xs n d).1 < 2 ^ 64 → list_all fits (take (n + 1) xs) ≡ true
 one_fits xs n d within before chunk value =
     list_all_more fits xs n d within
     ∙ and_from (list_all fits (take n xs)) (fits (get_or xs n d)) before (and_from _ _ (lt-ltb (get_or xs n d).0 (2 ^ 64) chunk) (lt-ltb (get_or xs n d).1 (2 ^ 64) value))

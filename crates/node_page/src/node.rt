@@ -5,6 +5,9 @@ ghost use Rattle.node_page.specs.declared.node.NodeHead.{NodeHead};
 
 use crate::Page;
 
+// The most entries that a node has.
+const MOST_ENTRIES: u16 = 253;
+
 /// What a node is: a leaf or an inner node, with 1 to 253 entries.
 #[derive(Clone, Copy, Debug, PartialEq, Eq)]
 pub struct NodeHead {
@@ -33,8 +36,8 @@ pub fn node_of(page: &Page) -> Option<NodeHead>
     ensures exact { (leaf : Bool) (entries : List Entry) → IsNode page.now leaf entries → result ≡ Some (record { leaf = leaf; count = length entries }) }
 {
     let head = head_of(page)?;
-    let behind = 2 + 2 * usize::from(head.count);
-    if are_rising(page, head.count) && page.is_zero_from(behind) {
+    let numbers = 2 + 2 * usize::from(head.count);
+    if are_rising(page, head.count) && page.is_zero_from(numbers) {
         Some(head)
     } else {
         None
@@ -59,13 +62,13 @@ fn head_bytes(leaf: bool, count: u16) -> [u8; 16]
     head
 }
 
-// The head at the front of a page, if it has one of a node of this length.
+// The head of the node that a page is by its front and its length, if it is one by these.
 fn head_of(page: &Page) -> Option<NodeHead>
     ensures { MatchOption result ((leaf : Bool) (count : ℕ) → HasHead page.now leaf count → ⊥) (λ head. HasHead page.now head.leaf head.count) }
 {
     let leaf = page.bytes[0] == 1;
     let count = u16::from_be_bytes([page.bytes[2], page.bytes[3]]);
-    let fits = 1 <= count && count <= 253 && page.len == 16 + 16 * count;
+    let fits = 1 <= count && count <= MOST_ENTRIES && page.len == 16 + 16 * count;
     if fits && &page.bytes[..16] == head_bytes(leaf, count).as_slice() {
         Some(NodeHead { leaf, count })
     } else {

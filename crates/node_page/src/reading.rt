@@ -18,15 +18,15 @@ impl Page {
         u64::from_be_bytes(number)
     }
 
-    /// Whether this number of 8 bytes and all behind it are zero, counted from 0.
-    pub(crate) fn is_zero_from(&self, first: usize) -> bool
-        requires { first ≤ 508 }
-        ensures cases { IsTrue result ↔ IsZeroFrom (8 * first) self.now.bytes }
+    /// Whether a page has nothing but zeros behind so many numbers of 8 bytes.
+    pub(crate) fn is_zero_from(&self, used: usize) -> bool
+        requires { used ≤ 508 }
+        ensures cases { IsTrue result ↔ IsZeroFrom (8 * used) self.now.bytes }
         ensures bytes { AreBytes self.now.bytes }
         ensures whole { length self.now.bytes ≡ 4064 }
     {
         known(&self.bytes);
-        for n in first..NUMBERS {
+        for n in used..NUMBERS {
             if self.long_at(8 * n) != 0 {
                 return false;
             }

@@ -30,7 +30,8 @@ pub fn stem_of(page: &Page) -> Option<(u64, u16)>
     if count > MOST_SKIPPED || u64::from(page.len) != 16 + 8 * count {
         return None;
     }
-    if page.is_zero_from(2 + count as usize) {
+    let numbers = 2 + count as usize;
+    if page.is_zero_from(numbers) {
         Some((root, count as u16))
     } else {
         None

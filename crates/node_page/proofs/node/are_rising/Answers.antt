@@ -8,12 +8,14 @@ loop-n-init c = first_chunk c.args.count c.args.page.now.bytes c.long_at-last.re
 
 pub returns-then-chunk-last : goal.returns-then-chunk-last
 returns-then-chunk-last c =
-    let chunk : c.long_at-chunk.result ≡ long_in (drop (16 + 16 * c.loop-n.n) c.args.page.now.bytes) = c.long_at-chunk.ensures ∙ ap (λ (k : ℕ). long_in (drop (16 + 16 * k) c.args.page.now.bytes)) c.from.ensures in
+    let chunk : c.long_at-chunk.result ≡ long_in (drop (16 + 16 * c.loop-n.n) c.args.page.now.bytes) =
+    c.long_at-chunk.ensures ∙ ap (λ (k : ℕ). long_in (drop (16 + 16 * k) c.args.page.now.bytes)) c.from.ensures in
     no_rise c.args.count c.args.page.now.bytes c.loop-n.n c.loop-n.last c.long_at-chunk.result c.loop-n.invariant c.loop-n-test.true chunk c.if-chunk-last.true
 
 pub loop-n-preserved : goal.loop-n-preserved
 loop-n-preserved c =
-    let chunk : c.long_at-chunk.result ≡ long_in (drop (16 + 16 * c.loop-n.n) c.args.page.now.bytes) = c.long_at-chunk.ensures ∙ ap (λ (k : ℕ). long_in (drop (16 + 16 * k) c.args.page.now.bytes)) c.from.ensures in
+    let chunk : c.long_at-chunk.result ≡ long_in (drop (16 + 16 * c.loop-n.n) c.args.page.now.bytes) =
+    c.long_at-chunk.ensures ∙ ap (λ (k : ℕ). long_in (drop (16 + 16 * k) c.args.page.now.bytes)) c.from.ensures in
     next_chunk c.args.count c.args.page.now.bytes c.loop-n.n c.loop-n.last c.long_at-chunk.result c.loop-n.invariant c.loop-n-test.true chunk c.if-chunk-last.false
 
 pub returns : goal.returns

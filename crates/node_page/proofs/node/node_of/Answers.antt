@@ -29,7 +29,8 @@ returns-else-are_rising-clause-cases c leaf entries is =
     let same = one_head page head.leaf leaf head.count (length entries) c.in_ok-head.ensures (has_head page leaf entries is) in
     elim c.else-are_rising.branch [
       | else-are_rising-via-then-are_rising+else-is_zero_from w ↦
-          both_ways w.is_zero_from.result w.if-is_zero_from.false (w.is_zero_from.ensures.cases.1 (node_zeros page leaf entries head.count (2 + 2 * c.from.result) is same.1 (ap (λ (k : ℕ). 2 + 2 * k) c.from.ensures)))
+          both_ways w.is_zero_from.result w.if-is_zero_from.false (w.is_zero_from.ensures.cases.1
+          (node_zeros page leaf entries head.count (2 + 2 * c.from.result) is same.1 (ap (λ (k : ℕ). 2 + 2 * k) c.from.ensures)))
       | else-are_rising-via-else-are_rising w ↦ both_ways c.are_rising.result w.if-are_rising.false (c.are_rising.ensures ∙ risen page leaf entries head.count is same.1)
     ]
 

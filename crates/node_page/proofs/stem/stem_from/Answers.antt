@@ -9,7 +9,8 @@ use Rattle.node_page.proofs.stem.stem_from.Goals as goal
 pub loop-chunk-init : goal.loop-chunk-init
 loop-chunk-init c = record {
   len = omega (arith, c.add_long-2.ensures.len, c.add_long.ensures.len, c.of-page.ensures.len);
-  page = subst (λ (bytes : List ℕ). IsPage bytes c.add_long-2.new.self) (sym (append-nil (long c.args.root ++ long (length c.args.skipped.now)))) (c.add_long-2.ensures.page (long c.args.root) (c.add_long.ensures.page [] c.of-page.ensures));
+  page = subst (λ (bytes : List ℕ). IsPage bytes c.add_long-2.new.self) (sym (append-nil (long c.args.root ++ long (length c.args.skipped.now))))
+      (c.add_long-2.ensures.page (long c.args.root) (c.add_long.ensures.page [] c.of-page.ensures));
 }
 
 pub loop-chunk-preserved : goal.loop-chunk-preserved
@@ -26,5 +27,6 @@ returns c = record {
   most = c.requires;
   small = c.add_long.ensures.fits;
   fit = all_long c.args.skipped.now (λ i. omega (arith, c.type_inv.skipped i));
-  bytes = subst (λ (chunks : List ℕ). IsPage (long c.args.root ++ long (length c.args.skipped.now) ++ flat_map long chunks) c.loop-chunk.page) (take_all c.loop-chunk.chunk-index c.args.skipped.now c.loop-chunk-test.false) c.loop-chunk.invariant.page;
+  bytes = subst (λ (chunks : List ℕ). IsPage (long c.args.root ++ long (length c.args.skipped.now) ++ flat_map long chunks) c.loop-chunk.page)
+      (take_all c.loop-chunk.chunk-index c.args.skipped.now c.loop-chunk-test.false) c.loop-chunk.invariant.page;
 }

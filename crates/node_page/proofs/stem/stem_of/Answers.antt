@@ -17,7 +17,8 @@ returns-then-count-gt-MOST_SKIPPED-clause-exact c root chunks is = absurd (retur
 
 pub returns-then-is_zero_from-clause-cases : goal.returns-then-is_zero_from-clause-cases
 returns-then-is_zero_from-clause-cases c =
-    stem_made c.args.page.now c.long_at-root.result c.long_at-count.result (2 + c.long_at-count.result) c.is_zero_from.ensures.bytes c.is_zero_from.ensures.whole c.long_at-root.ensures c.long_at-count.ensures c.if-count-gt-MOST_SKIPPED.false
+    stem_made c.args.page.now c.long_at-root.result c.long_at-count.result (2 + c.long_at-count.result)
+    c.is_zero_from.ensures.bytes c.is_zero_from.ensures.whole c.long_at-root.ensures c.long_at-count.ensures c.if-count-gt-MOST_SKIPPED.false
     (sym c.from.ensures ∙ c.if-from-count.false) refl (c.is_zero_from.ensures.cases.0 c.if-is_zero_from.true)
 
 pub returns-then-is_zero_from-clause-exact : goal.returns-then-is_zero_from-clause-exact

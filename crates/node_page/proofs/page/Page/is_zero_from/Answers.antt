@@ -4,7 +4,7 @@ use Rattle.node_page.proofs.page.Page.is_zero_from.Goals as goal
 
 pub returns-then-long_at-ne0-clause-cases : goal.returns-then-long_at-ne0-clause-cases
 returns-then-long_at-ne0-clause-cases c =
-    ((λ is. absurd (search rules)), λ zeros. absurd (c.if-long_at-ne0.true (c.long_at.ensures ∙ zero_there c.args.self.now.bytes c.args.first c.loop-n.n c.loop-n.auto.n c.loop-n-test.true zeros)))
+    ((λ is. absurd (search rules)), λ zeros. absurd (c.if-long_at-ne0.true (c.long_at.ensures ∙ zero_there c.args.self.now.bytes c.args.used c.loop-n.n c.loop-n.auto.n c.loop-n-test.true zeros)))
 
 pub loop-n-preserved : goal.loop-n-preserved
 loop-n-preserved c zeros =
