@@ -33,7 +33,7 @@ marks_filter p numbers kept is = ap marks is ∙ each numbers
 number_is : (a b : Numbered) → a.store ≡ b.store → a.seq ≡ b.seq → a.key ≡ b.key → a ≡ b
 number_is a b s n k = ap (λ (x : ℕ). numbers_at x a.seq a.key) s ∙ ap (λ (x : ℕ). numbers_at b.store x a.key) n ∙ ap (numbers_at b.store b.seq) k
 
-same_number : (a b : Numbered) → is_eq (number_cmp a b) ≡ true → a ≡ b
+pub same_number : (a b : Numbered) → is_eq (number_cmp a b) ≡ true → a ≡ b
 same_number a b h = exact_numbers a b ((Equal-is (number_cmp a b)).0 h)
 
 ties : (a b : Numbered) → a ≡ b → is_eq (number_cmp a b) ≡ true
