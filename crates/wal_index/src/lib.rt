@@ -20,3 +20,5 @@ pub use room::Room;
 
 #[cfg(test)]
 mod tests;
+#[cfg(test)]
+mod walk;
