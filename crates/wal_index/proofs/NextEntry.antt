@@ -1,5 +1,5 @@
 -- The nearest entry of a store stands at the border between the keys before and behind.
-use Rattle.std.proofs.Common.{◌≡◌, ◌≢◌, ◌⊎◌, ℕ, zero, suc, ◌<◌, ◌≤◌, ◌+◌, Bool, true, false, ◌&&◌, ◌||◌, List, [], ◌∷◌, length, refl, sym, ap, ◌∙◌, subst, inl, inr, arith, get_or}
+use Rattle.std.proofs.Common.{◌≡◌, ◌≢◌, ◌⊎◌, ℕ, zero, suc, ◌<◌, ◌≤◌, ◌+◌, Bool, true, false, ◌&&◌, ◌||◌, List, length, refl, sym, ap, ◌∙◌, subst, inl, inr, arith, get_or}
 use Rattle.std.specs.Prelude.{Some, None, ◌==◌, not, nat_lt, slice_get, find, reverse, if◌then◌else◌}
 use Rattle.std.specs.Global.{Box}
 use Rattle.std.specs.Cmp.{nat_cmp_is}
@@ -17,6 +17,7 @@ use Rattle.forest_model.specs.declared.stored.Entry.{Entry}
 use Rattle.forest_model.specs.declared.stored.KeyEntry.{KeyEntry}
 use Rattle.wal_index.specs.Index.{is_past, nearest_of}
 use Rattle.wal_index.specs.Rows.{key_of, pair_of, pairs, AreSorted, IsBorder, of_store}
+use Rattle.wal_index.proofs.ByNumber.{same_at}
 use Rattle.wal_index.proofs.Found.{first_at, no_first, last_at, no_last}
 use Rattle.wal_index.proofs.Sorted.{rising}
 
@@ -51,12 +52,6 @@ pub le_or_gt : (n j : ℕ) → (n ≤ j) ⊎ (j < n)
 le_or_gt zero j = inl (omega arith)
 le_or_gt (suc n) zero = inr (omega arith)
 le_or_gt (suc n) (suc j) = elim (le_or_gt n j) [ inl l ↦ inl (omega arith) | inr l ↦ inr (omega arith) ]
-
--- an element of a list is the same with every default
-get_or_default : {X : Type 0} (xs : List X) (j : ℕ) (d e : X) → j < length xs → get_or xs j d ≡ get_or xs j e
-get_or_default [] j d e l = absurd (omega arith)
-get_or_default (x ∷ xs) zero d e l = refl
-get_or_default (x ∷ xs) (suc j) d e l = get_or_default xs j d e (omega arith)
 
 -- ---- the two directions
 
@@ -105,8 +100,8 @@ module _ (with : Bool) (q : DocKey) (boxes : List (Box KeyEntry)) (sorted : AreS
         let here : r.value.store ≤ (get_or boxes j r).value.store = stores_rise (key_of r) (key_of (get_or boxes j r)) (ap is_gt (subst (λ (s : Box KeyEntry). key_cmp (key_of s) (key_of (get_or boxes j r)) ≡ Less) is (rising key_cmp pair_of boxes sorted n j r less m))) in
         let above : q.store ≤ r.value.store = stores_rise q (key_of r) (up_not_above with (key_cmp q (key_of r)) (subst (λ (s : Box KeyEntry). is_past with true q (key_of s) ≡ true) is (up_there n border n r (omega arith) (omega arith)))) in
         let apart : r.value.store ≢ q.store = eqb-false r.value.store q.store other in
-        ap (λ (s : Box KeyEntry). s.value.store == q.store) (get_or_default boxes j d r m) ∙ differ (get_or boxes j r).value.store q.store (λ same. apart (omega arith))
-    | inr e ↦ ap (λ (s : Box KeyEntry). s.value.store == q.store) (ap (λ k. get_or boxes k d) (sym e) ∙ get_or_default boxes n d r (subst (λ k. k < length boxes) (sym e) m) ∙ is) ∙ other
+        ap (λ (s : Box KeyEntry). s.value.store == q.store) (same_at boxes j d r m) ∙ differ (get_or boxes j r).value.store q.store (λ same. apart (omega arith))
+    | inr e ↦ ap (λ (s : Box KeyEntry). s.value.store == q.store) (ap (λ k. get_or boxes k d) (sym e) ∙ same_at boxes n d r (subst (λ k. k < length boxes) (sym e) m) ∙ is) ∙ other
   ]
 
   pub up_at : (n : ℕ) → IsBorder (is_past (not with) false q) boxes n → of_store q.store (option_map pair_of (slice_get boxes n)) ≡ nearest_of with true (pairs boxes) q
@@ -137,8 +132,8 @@ module _ (with : Bool) (q : DocKey) (boxes : List (Box KeyEntry)) (sorted : AreS
         let below : r.value.store ≤ q.store = stores_fall q (key_of r) (down_not_below with (key_cmp q (key_of r)) (subst (λ (s : Box KeyEntry). is_past with false q (key_of s) ≡ true) is (border.before n r (omega arith)))) in
         let apart : r.value.store ≢ q.store = eqb-false r.value.store q.store other in
         let m : j < length boxes = omega arith in
-        ap (λ (s : Box KeyEntry). s.value.store == q.store) (get_or_default boxes j d r m) ∙ differ (get_or boxes j r).value.store q.store (λ same. apart (omega arith))
-    | inr e ↦ ap (λ (s : Box KeyEntry). s.value.store == q.store) (ap (λ k. get_or boxes k d) e ∙ get_or_default boxes n d r within ∙ is) ∙ other
+        ap (λ (s : Box KeyEntry). s.value.store == q.store) (same_at boxes j d r m) ∙ differ (get_or boxes j r).value.store q.store (λ same. apart (omega arith))
+    | inr e ↦ ap (λ (s : Box KeyEntry). s.value.store == q.store) (ap (λ k. get_or boxes k d) e ∙ same_at boxes n d r within ∙ is) ∙ other
   ]
 
   pub down_at : (n : ℕ) → n < length boxes → IsBorder (is_past with false q) boxes (n + 1) → of_store q.store (option_map pair_of (slice_get boxes n)) ≡ nearest_of with false (pairs boxes) q
