@@ -1,1 +1,4 @@
 mod Puts
+mod Blocks
+mod Steps
+mod Loads

@@ -5,3 +5,6 @@ pub mod Runs
 pub mod Fold
 pub mod Reading
 pub mod Causes
+pub mod Steps
+pub mod Heads
+pub mod Sources

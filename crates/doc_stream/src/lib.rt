@@ -4,6 +4,8 @@
 //! bytes that went out and those that stay are exactly the records put, one behind another.
 #![tactic(auto)]
 
+mod heads;
+mod reader;
 mod reading;
 mod tail;
 
