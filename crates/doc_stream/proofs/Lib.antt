@@ -2,3 +2,4 @@ mod Puts
 mod Blocks
 mod Steps
 mod Loads
+mod Fills
