@@ -10,7 +10,7 @@ fill_front out part rest filled n within fits =
     let front = take filled out in
     let long : length (front ++ take n part) ≡ filled + n = omega (arith, length-append front (take n part), length-take-le filled out within, length-take-le n part fits) in
     let split : front ++ (part ++ rest) ≡ (front ++ take n part) ++ (drop n part ++ rest) =
-        ap (λ (l : List ℕ). front ++ (l ++ rest)) (sym (take-append-drop n part)) ∙ ap (λ (l : List ℕ). front ++ l) (append_assoc (take n part) (drop n part) rest) ∙ sym (append_assoc front (take n part) (drop n part ++ rest)) in
+    ap (λ (l : List ℕ). front ++ (l ++ rest)) (sym (take-append-drop n part)) ∙ ap (λ (l : List ℕ). front ++ l) (append_assoc (take n part) (drop n part) rest) ∙ sym (append_assoc front (take n part) (drop n part ++ rest)) in
     ap (λ (l : List ℕ). take (filled + n) l) split ∙ take_at (front ++ take n part) (drop n part ++ rest) (filled + n) long
 
 -- one more step of a loop that fills
@@ -45,3 +45,21 @@ pub stops_filling : (asked : Asked) (file : List Block) (start old : Place) (out
 stops_filling asked file start old out filled block lt so_far stops =
     let long : length (take filled out) ≡ filled = length-take-le filled out (omega arith) in
     stops_more asked file start (length (take filled out) + 1) (length out) block (omega arith) (stops_behind asked file start old (take filled out) 1 block so_far stops)
+
+-- behind other bytes, in the same file
+pub stops_after : (asked : Asked) (file file' : List Block) (start mid : Place) (bytes : List ℕ) (count all block : ℕ) → file' ≡ file → Takes asked file start mid bytes → length bytes + count ≤ all → Stops asked file' mid count block → Stops asked file start all block
+stops_after asked file file' start mid bytes count all block same takes le stops =
+    stops_more asked file start (length bytes + count) all block le (stops_behind asked file start mid bytes count block takes (subst (λ (f : List Block). Stops asked f mid count block) same stops))
+
+pub takes_after : (asked : Asked) (file file' : List Block) (a b c : Place) (first second : List ℕ) → file' ≡ file → Takes asked file a b first → Takes asked file' b c second → Takes asked file a c (first ++ second)
+takes_after asked file file' a b c first second same one two = takes_both asked file a b c first second one (subst (λ (f : List Block). Takes asked f b c second) same two)
+
+pub moved_both : (asked : Asked) (a b c : Place) (n m : ℕ) → Moves asked a b n n → Moves asked b c m m → Moves asked a c (n + m) (n + m)
+moved_both asked a b c n m one two =
+    let one_later = one.later in
+    let one_near = one.near in
+    let one_further = one.further in
+    let two_later = two.later in
+    let two_near = two.near in
+    let two_further = two.further in
+    record { later = omega arith; near = omega arith; within = two.within; further = omega arith }

@@ -3,3 +3,4 @@ mod Blocks
 mod Steps
 mod Loads
 mod Fills
+mod RecordBytes

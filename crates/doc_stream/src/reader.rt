@@ -3,10 +3,11 @@ ghost use Rattle.forest_model.specs.declared.refusal.Refusal.TheVariants as Refu
 ghost use Rattle.doc_stream.specs.Causes.{Reason};
 ghost use Rattle.doc_stream.specs.OpenBlock.{address_of};
 ghost use Rattle.doc_stream.specs.Sources.{asked_of};
-ghost use Rattle.doc_stream.specs.Steps.{IsNotOpen, IsWithin, Loads, Moves, Stands, Stops, Takes, Turns, Unsealed};
+ghost use Rattle.doc_stream.specs.Steps.{IsNotOpen, IsWithin, Loads, Moves, Stands, Stops, StopsRecord, Takes, TakesRecord, Turns, Unsealed};
 ghost use Rattle.doc_stream.specs.Records as records;
 
 use crate::Tail;
+use crate::heads::{Head, has_form, head_in};
 use block_host::{Block, View, unseal};
 use forest_model::{Bytes, Rec, Refusal};
 use std::alloc::Global;
@@ -259,6 +260,71 @@ impl Reader {
         let mut bytes = vec![in alloc; 0; count]?;
         self.fill(view, source, &mut bytes)?;
         Ok(Bytes::from_vec(bytes))
+    }
+
+    // The parts of a record behind its head: key, meta and body.
+    fn parts<V: View>(
+        &mut self,
+        alloc: Global,
+        view: &mut V,
+        source: &Source,
+        head: &Head,
+    ) -> Result<(Bytes, Bytes, Bytes), Refusal>
+        requires first { 1 ≤ self.old.next }
+        requires low { self.old.next ≤ 2 ^ 61 }
+        requires within { IsWithin (asked_of source.now).tail source.now.end self.old.next }
+        ensures key { IfOk result (λ parts. length parts.0 ≡ head.now.key) }
+        ensures meta { IfOk result (λ parts. length parts.1 ≡ head.now.meta) }
+        ensures body { IfOk result (λ parts. length parts.2 ≡ head.now.body) }
+        ensures moved { OnOk result (let count = head.now.key + head.now.meta + head.now.body in Moves (asked_of source.now) self.old self.new count count) }
+        ensures taken { IsTrue V.tells → IfOk result (λ parts. Takes (asked_of source.now) (V.content view.old) self.old self.new (parts.0 ++ parts.1 ++ parts.2)) }
+        ensures reason { IfErr result (Reason V.tells source.now.revision (Stops (asked_of source.now) (V.content view.old) self.old (head.now.key + head.now.meta + head.now.body)) (V.faults view.old) (V.faults view.new)) }
+        ensures content { IsTrue V.tells → V.content view.new ≡ V.content view.old }
+        ensures counts { V.faults view.old ≤ V.faults view.new }
+        ensures untroubled { OnOk result (V.faults view.new ≡ V.faults view.old) }
+    {
+        let key = self.bytes(alloc, view, source, head.key as usize)?;
+        let meta = self.bytes(alloc, view, source, head.meta as usize)?;
+        let body = self.bytes(alloc, view, source, head.body as usize)?;
+        Ok((key, meta, body))
+    }
+
+    // The record that begins here.
+    pub(crate) fn record<V: View>(
+        &mut self,
+        alloc: Global,
+        view: &mut V,
+        source: &Source,
+    ) -> Result<Rec, Refusal>
+        requires first { 1 ≤ self.old.next }
+        requires low { self.old.next ≤ 2 ^ 60 }
+        requires within { IsWithin (asked_of source.now).tail source.now.end self.old.next }
+        ensures is_record { IfOk result (λ rec. IsTrue (records.is_record rec)) }
+        ensures moved { OnOk result ((count : ℕ) × (1 ≤ count) × (count ≤ 2 ^ 22) × Moves (asked_of source.now) self.old self.new count count) }
+        ensures taken { IsTrue V.tells → IfOk result (TakesRecord (asked_of source.now) (V.content view.old) self.old self.new) }
+        ensures reason { IfErr result (Reason V.tells source.now.revision (StopsRecord (asked_of source.now) (V.content view.old) self.old) (V.faults view.old) (V.faults view.new)) }
+        ensures content { IsTrue V.tells → V.content view.new ≡ V.content view.old }
+        ensures counts { V.faults view.old ≤ V.faults view.new }
+        ensures untroubled { OnOk result (V.faults view.new ≡ V.faults view.old) }
+    {
+        let mut start = [0; 24];
+        self.fill(view, source, &mut start)?;
+        let Some(head) = head_in(&start) else {
+            return Err(self.damaged(source));
+        };
+        let (key, meta, body) = self.parts(alloc, view, source, &head)?;
+        let rec = Rec {
+            kind: head.kind,
+            store: head.store,
+            seq: head.seq,
+            key,
+            meta,
+            body,
+        };
+        if !has_form(&rec) {
+            return Err(self.damaged(source));
+        }
+        Ok(rec)
     }
 }
 

@@ -18,11 +18,11 @@ returns-in_err-turn-clause-reason g c =
     let same_faults = c.loop-filled.invariant.untroubled in
     let long : length c.loop-filled.out ≡ length c.args.out.now = c.loop-filled.auto.out in
     rw (p.1, p.2) (reason_of g.V.View.tells asked.revision (Stops asked (g.V.View.content c.loop-filled.view) c.loop-filled.self 1) (Stops asked file place (length c.args.out.now))
-        (g.V.View.faults c.args.view.now) (g.V.View.faults c.loop-filled.view) (g.V.View.faults c.turn.new.view) c.in_err-turn.field-0.0 (omega arith)
-        (λ told n h. subst (λ (k : ℕ). Stops asked file place k n) long
-            (stops_filling asked file place c.loop-filled.self c.loop-filled.out c.loop-filled.filled n c.loop-filled-test.true (c.loop-filled.invariant.taken told)
-            (subst (λ (f : List Block). Stops asked f c.loop-filled.self 1 n) (c.loop-filled.invariant.content told) h)))
-        c.in_err-turn.ensures.reason)
+    (g.V.View.faults c.args.view.now) (g.V.View.faults c.loop-filled.view) (g.V.View.faults c.turn.new.view) c.in_err-turn.field-0.0 (omega arith)
+    (λ told n h. subst (λ (k : ℕ). Stops asked file place k n) long
+    (stops_filling asked file place c.loop-filled.self c.loop-filled.out c.loop-filled.filled n c.loop-filled-test.true (c.loop-filled.invariant.taken told)
+    (subst (λ (f : List Block). Stops asked f c.loop-filled.self 1 n) (c.loop-filled.invariant.content told) h)))
+    c.in_err-turn.ensures.reason)
 
 pub loop-filled-preserved : goal.loop-filled-preserved
 loop-filled-preserved g c =
