@@ -1,6 +1,6 @@
 -- The record blocks from a block on, one by one.
-use Rattle.std.proofs.Common.{◌≡◌, ◌≢◌, ◌⊎◌, inl, inr, ℕ, zero, suc, ◌+◌, ◌-◌, ◌<◌, ◌≤◌, Bool, true, false, not, ◌==◌, filter, List, [], ◌∷◌, ◌++◌, length, take, slice_get, Option, Some, None, refl, sym, ◌∙◌, ap, subst, arith}
-use Rattle.std.proofs.lemmas.List.{take-take, nil_from_length}
+use Rattle.std.proofs.Common.{◌≡◌, ◌≢◌, ◌⊎◌, inl, inr, ℕ, zero, suc, ◌+◌, ◌-◌, ◌<◌, ◌≤◌, true, false, not, List, [], ◌∷◌, length, take, slice_get, Option, Some, None, refl, sym, ◌∙◌, ap, subst, arith}
+use Rattle.std.proofs.lemmas.List.{take-take}
 use Rattle.std.proofs.lemmas.Option.{same_Some}
 use Rattle.block_host.specs.Sealed.{IsSealed}
 use Rattle.block_host.specs.declared.block.Block.{Block}
@@ -196,7 +196,7 @@ same_piece q at block offset =
     let piece : ℕ → ℕ → Piece = λ a b. record { block = a; offset = b; bytes = q.bytes } in
     ap (λ (a : ℕ). piece a q.offset) block ∙ ap (λ (b : ℕ). piece at b) offset
 
-shows_held : (revision : ℕ) (file : List Block) (tail : OpenBlock) (at : ℕ) (bytes : List ℕ) → Holds revision file tail at bytes → Shows revision (Some tail) file at 1 bytes
+pub shows_held : (revision : ℕ) (file : List Block) (tail : OpenBlock) (at : ℕ) (bytes : List ℕ) → Holds revision file tail at bytes → Shows revision (Some tail) file at 1 bytes
 shows_held revision file tail at bytes (inl here) = inl (here.0, refl, here.1)
 shows_held revision file tail at bytes (inr there) = inr (there.0, record { block = there.1; there = there.2; sealed = there.3 })
 

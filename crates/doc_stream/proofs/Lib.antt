@@ -4,3 +4,5 @@ mod Steps
 mod Loads
 mod Fills
 mod RecordBytes
+mod RangeScans
+mod AddressReads

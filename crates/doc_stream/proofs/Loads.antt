@@ -1,12 +1,10 @@
 -- A block that is read, of a view or the open one.
-use Rattle.std.proofs.Common.{◌≡◌, ◌≢◌, ◌⊎◌, inl, inr, ℕ, ◌+◌, ◌≤◌, ◌==◌, IsTrue, arith, List, [], length, take, slice_get, Option, Some, None, unwrap_or, Bool, true, false, refl, sym, ◌∙◌, ap, subst}
+use Rattle.std.proofs.Common.{◌≡◌, ◌≢◌, inl, inr, ℕ, ◌≤◌, IsTrue, arith, List, [], length, take, slice_get, Option, Some, None, unwrap_or, Bool, true, false, refl, sym, subst}
 use Rattle.block_host.specs.Sealed.{IsSealed, zero_block}
 use Rattle.block_host.specs.Calls.{block_at}
 use Rattle.block_host.specs.declared.block.Block.{Block}
 use Rattle.block_host.proofs.Back.{payload_back, zero_block-torn}
-use Rattle.std.proofs.lemmas.Bool.Decides.{nat_tests}
 use Rattle.forest_model.specs.declared.refusal.Refusal.{Refusal}
-use Rattle.forest_model.specs.declared.refusal.Refusal.TheVariants as Refusal
 use Rattle.doc_stream.specs.Causes.{Reason}
 use Rattle.doc_stream.specs.OpenBlock.{OpenBlock}
 use Rattle.doc_stream.specs.Steps.{Asked, Place, Stands, Shows, Unsealed, IsNotOpen, Loads}

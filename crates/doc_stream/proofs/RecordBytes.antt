@@ -1,18 +1,17 @@
 -- A record read part by part: its head, and what stands behind it.
-use Rattle.std.proofs.Common.{◌≡◌, ◌≢◌, ◌⊎◌, inl, inr, ℕ, ◌+◌, ◌-◌, ◌^◌, ◌≤◌, ◌<◌, Bool, true, false, ◌&&◌, List, [], ◌∷◌, ◌++◌, length, take, drop, IsTrue, refl, sym, ◌∙◌, ap, subst, arith, rules, append_assoc, length-append}
-use Rattle.std.specs.Int.{w16, w32, w64, to_be_bytes, from_be_bytes}
-use Rattle.std.proofs.lemmas.Bool.{and_parts, ltb-true, leb-true}
-use Rattle.std.proofs.lemmas.Grind.{common_steps}
-use Rattle.std.proofs.lemmas.List.{append-nil, append_cancel_left, nil_from_length, take_at, drop_at}
+use Rattle.std.proofs.Common.{◌≡◌, ℕ, ◌+◌, ◌-◌, ◌^◌, ◌≤◌, ◌<◌, true, false, List, [], ◌++◌, length, take, drop, IsTrue, refl, sym, ◌∙◌, ap, subst, arith, rules, append_assoc, length-append}
+use Rattle.std.specs.Int.{w16, w32, w64, from_be_bytes}
+use Rattle.std.proofs.lemmas.Bool.{and_parts, ltb-true}
+use Rattle.std.proofs.lemmas.List.{append-nil, nil_from_length, take_at, drop_at}
 use Rattle.std.proofs.lemmas.Nat.{from_be_bytes-to_be_bytes_2, from_be_bytes-to_be_bytes_4, from_be_bytes-to_be_bytes_8}
 use Rattle.block_host.specs.declared.block.Block.{Block}
 use Rattle.forest_model.specs.declared.stored.Rec.{Rec}
 use Rattle.doc_stream.specs.Heads.{head_with, has_form}
 use Rattle.doc_stream.specs.Records.{record_bytes, head_bytes, is_record, has_numbers}
 use Rattle.doc_stream.specs.Runs.{Piece}
-use Rattle.doc_stream.specs.Steps.{Asked, Place, IsWithin, SameBelow, Stretch, Takes, Moves, Stops, TakesRecord, StopsRecord}
+use Rattle.doc_stream.specs.Steps.{Asked, Place, IsWithin, SameBelow, Stretch, Takes, Stops, TakesRecord, StopsRecord}
 use Rattle.doc_stream.proofs.Blocks.{same_less}
-use Rattle.doc_stream.proofs.Steps.{takes_both, split_front}
+use Rattle.doc_stream.proofs.Steps.{split_front}
 
 pub record FitsRecord (r : Rec) : Type 0 where
   pub key : length r.key ≤ 3500

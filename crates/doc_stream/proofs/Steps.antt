@@ -1,10 +1,8 @@
 -- Steps of a reader, and what each tells of every way to go on.
-use Rattle.std.proofs.Common.{◌≡◌, ◌≢◌, ◌⊎◌, inl, inr, ℕ, zero, suc, ◌+◌, ◌-◌, ◌*◌, ◌<◌, ◌≤◌, Bool, true, false, List, [], ◌∷◌, ◌++◌, length, take, drop, Option, Some, None, IsTrue, refl, sym, ◌∙◌, ap, subst, arith, append_assoc, length-append, add-zero}
-use Rattle.std.proofs.lemmas.List.{append-nil, append_cancel_left, nil_from_length, take-append-drop, length-take-le, take-append-le, take_at, drop_at, drop-append-le}
+use Rattle.std.proofs.Common.{◌≡◌, ◌≢◌, inl, inr, ℕ, ◌+◌, ◌-◌, ◌<◌, ◌≤◌, List, [], ◌∷◌, ◌++◌, length, refl, sym, ◌∙◌, ap, subst, arith, append_assoc, length-append, add-zero}
 use Rattle.block_host.specs.declared.block.Block.{Block}
-use Rattle.doc_stream.specs.OpenBlock.{OpenBlock}
 use Rattle.doc_stream.specs.Runs.{Piece, Follows, Spreads}
-use Rattle.doc_stream.specs.Steps.{Asked, Place, in_hand, Shows, Following, IsWithin, SameBelow, Stretch, Unsealed, Turns, Takes, Moves, Stops}
+use Rattle.doc_stream.specs.Steps.{Asked, Place, in_hand, Shows, Following, IsWithin, SameBelow, Stretch, Unsealed, Turns, Takes, Stops}
 use Rattle.doc_stream.proofs.Blocks.{same_less, same_back, shows_other, shows_once, Next, next_there, following_on}
 
 nonempty : (bytes : List ℕ) → 1 ≤ length bytes → bytes ≢ []

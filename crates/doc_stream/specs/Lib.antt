@@ -8,3 +8,4 @@ pub mod Causes
 pub mod Steps
 pub mod Heads
 pub mod Sources
+pub mod Scans

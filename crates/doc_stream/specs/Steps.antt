@@ -1,11 +1,11 @@
 -- How a file's record blocks are read step by step, and what each step tells of every way to go on.
-use Rattle.std.specs.Prelude.{◌≡◌, ◌≢◌, ◌⊎◌, ℕ, ◌+◌, ◌-◌, ◌*◌, ◌<◌, ◌≤◌, List, [], ◌∷◌, ◌++◌, length, take, slice_get, Bool, true, false, Option, Some, None, IsTrue, is_none}
+use Rattle.std.specs.Prelude.{◌≡◌, ◌≢◌, ◌⊎◌, ℕ, ◌+◌, ◌-◌, ◌*◌, ◌≤◌, List, [], ◌∷◌, ◌++◌, length, take, slice_get, Bool, true, false, Option, Some, None, IsTrue}
 use Rattle.block_host.specs.Sealed.{IsSealed}
 use Rattle.block_host.specs.declared.block.Block.{Block}
 use Rattle.forest_model.specs.declared.stored.Rec.{Rec}
-use Rattle.doc_stream.specs.OpenBlock.{OpenBlock, address_of}
+use Rattle.doc_stream.specs.OpenBlock.{OpenBlock}
 use Rattle.doc_stream.specs.Records.{record_bytes, is_record}
-use Rattle.doc_stream.specs.Runs.{Piece, RecordBlocks, Spreads, AreRecords, left}
+use Rattle.doc_stream.specs.Runs.{Piece, RecordBlocks, Spreads, left}
 use Rattle.doc_stream.specs.Reading.{AreHeld}
 
 -- what is read: a revision of a file, with its open block, or else up to the end of a range

@@ -150,6 +150,13 @@ impl Reader {
         !self.rest().is_empty()
     }
 
+    // How many bytes are left of the block in hand.
+    pub(crate) fn left(&self) -> usize
+        ensures { result ≡ length self.now.bytes }
+    {
+        self.rest().len()
+    }
+
     // The number of the next block.
     pub(crate) fn next(&self) -> u64
         ensures { result ≡ self.now.next }

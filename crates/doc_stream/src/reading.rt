@@ -1,11 +1,14 @@
-ghost use Rattle.std.specs.Prelude.{◌≡◌, ◌⊎◌, ◌≤◌, ◌-◌, ◌^◌, ℕ, List, IsTrue, IfOk, IfErr, OnOk, Ok, Err};
+ghost use Rattle.std.specs.Prelude.{◌≡◌, ◌⊎◌, ◌≤◌, ◌<◌, ◌-◌, ◌^◌, ◌++◌, ℕ, List, length, Some, None, IsTrue, IfOk, IfErr, OnOk, Ok, Err};
 ghost use Rattle.forest_model.specs.declared.refusal.Refusal.TheVariants as Refusal;
 ghost use Rattle.forest_model.specs.declared.stored.Rec.{Rec};
 ghost use Rattle.doc_stream.specs.Causes.{BreaksRecord, BreaksRecords, Reason};
 ghost use Rattle.doc_stream.specs.Reading.{RecordAt};
 ghost use Rattle.doc_stream.specs.Runs.{RecordsOf};
+ghost use Rattle.doc_stream.specs.Scans.{BreaksRest, Scans, StartsFrom, still};
+ghost use Rattle.doc_stream.specs.Sources.{asked_of};
 
 use crate::Tail;
+use crate::reader::{Reader, Source};
 use block_host::View;
 use forest_model::{Rec, Recs, Refusal};
 use std::alloc::Global;
@@ -27,8 +30,49 @@ pub fn scan<V: View>(
     ensures counts { V.faults view.old ≤ V.faults view.new }
     ensures untroubled { OnOk result (V.faults view.new ≡ V.faults view.old) }
 {
-    let _unused = (rev, from, to, view.size());
-    Ok(Recs::new(alloc))
+    let source = Source {
+        revision: rev,
+        tail: None,
+        end: to,
+    };
+    let mut reader = Reader::new(from);
+    let mut records = Recs::new(alloc);
+    while reader.next() < to || reader.has_bytes() {
+        step(alloc, view, &source, &mut reader, &mut records)?;
+    }
+    Ok(records)
+}
+
+// Puts the next record of a range behind the others; where the block in hand has no bytes left, goes on to the next one.
+fn step<V: View>(
+    alloc: Global,
+    view: &mut V,
+    source: &Source,
+    reader: &mut Reader,
+    records: &mut Recs,
+) -> Result<(), Refusal>
+    requires range { (asked_of source.now).tail ≡ None }
+    requires end { source.now.end ≤ 2 ^ 41 }
+    requires some { (reader.old.next < source.now.end) ⊎ (1 ≤ length reader.old.bytes) }
+    requires ready { 1 ≤ length reader.old.bytes → (1 ≤ reader.old.next) × (reader.old.next ≤ source.now.end) }
+    ensures ready { OnOk result (1 ≤ length reader.new.bytes → reader.new.next ≤ source.now.end) }
+    ensures advanced { OnOk result (1 ≤ length reader.new.bytes → (reader.old.next < reader.new.next) ⊎ (1 ≤ length reader.old.bytes)) }
+    ensures later { OnOk result (reader.old.next ≤ reader.new.next) }
+    ensures less { OnOk result (still source.now.end reader.new < still source.now.end reader.old) }
+    ensures scanned { IsTrue V.tells → OnOk result ((done : List (ℕ × Rec)) × (records.new ≡ records.old ++ done) × Scans (asked_of source.now) (V.content view.old) reader.old reader.new done) }
+    ensures reason { IfErr result (Reason V.tells source.now.revision (BreaksRest (asked_of source.now) (V.content view.old) reader.old) (V.faults view.old) (V.faults view.new)) }
+    ensures content { IsTrue V.tells → V.content view.new ≡ V.content view.old }
+    ensures counts { V.faults view.old ≤ V.faults view.new }
+    ensures untroubled { OnOk result (V.faults view.new ≡ V.faults view.old) }
+{
+    if !reader.has_bytes() {
+        reader.load(view, source)?;
+        return Ok(());
+    }
+    let address = reader.address();
+    let record = reader.record(alloc, view, source)?;
+    records.push((address, record))?;
+    Ok(())
 }
 
 /// The record at an address of a file's revision, which may lie in whole or in part in the open block.
@@ -46,6 +90,39 @@ pub fn read<V: View>(
     ensures counts { V.faults view.old ≤ V.faults view.new }
     ensures untroubled { OnOk result (V.faults view.new ≡ V.faults view.old) }
 {
-    let _unused = (alloc, rev, address, view.size(), tail.number());
-    Err(Refusal::NoMemory)
+    let source = Source {
+        revision: rev,
+        tail: Some(tail),
+        end: 0,
+    };
+    let mut reader = reader_at(view, &source, tail, address)?;
+    let record = reader.record(alloc, view, &source)?;
+    Ok(record)
+}
+
+// A reader at an address.
+fn reader_at<V: View>(
+    view: &mut V,
+    source: &Source,
+    tail: &Tail,
+    address: u64,
+) -> Result<Reader, Refusal>
+    requires { (asked_of source.now).tail ≡ Some tail.now }
+    ensures next { IfOk result (λ reader. (1 ≤ reader.next) × (reader.next ≤ 2 ^ 52)) }
+    ensures starts { IsTrue V.tells → IfOk result (StartsFrom (asked_of source.now) (V.content view.old) tail.now address) }
+    ensures reason { IfErr result (Reason V.tells source.now.revision (BreaksRecord source.now.revision (V.content view.old) tail.now address) (V.faults view.old) (V.faults view.new)) }
+    ensures content { IsTrue V.tells → V.content view.new ≡ V.content view.old }
+    ensures counts { V.faults view.old ≤ V.faults view.new }
+    ensures untroubled { OnOk result (V.faults view.new ≡ V.faults view.old) }
+{
+    let mut reader = Reader::new(address / 4096);
+    if !reader.load(view, source)? {
+        return Err(reader.damaged(source));
+    }
+    let offset = (address % 4096) as usize;
+    if reader.left() <= offset {
+        return Err(reader.damaged(source));
+    }
+    reader.skip(offset);
+    Ok(reader)
 }

@@ -1,10 +1,10 @@
-use Rattle.std.proofs.Common.{◌≡◌, ◌≤◌, ◌+◌, ◌-◌, ℕ, List, [], length, take, drop, Bool, true, false, refl, sym, ◌∙◌, arith, ap, subst, rules}
+use Rattle.std.proofs.Common.{◌≡◌, ◌≤◌, ◌-◌, ℕ, List, length, take, drop, refl, ◌∙◌, arith, subst}
 use Rattle.std.proofs.lemmas.Result.{err_from_is_err_and}
 use Rattle.std.proofs.lemmas.List.{length-take-le, length-drop}
 use borrow.Rule.Slice.PartMut.{mid_of, post_of, put_mid, same_len_mid}
 use Rattle.block_host.specs.declared.block.Block.{Block}
 use Rattle.doc_stream.specs.Sources.{asked_of}
-use Rattle.doc_stream.specs.Steps.{Place, Moves, Takes, Turns, Stops}
+use Rattle.doc_stream.specs.Steps.{Turns, Stops}
 use Rattle.doc_stream.proofs.Loads.{reason_of}
 use Rattle.doc_stream.proofs.Fills.{fill_more, moved_more, stops_filling}
 use Rattle.doc_stream.proofs.reader.Reader.fill.Goals as goal

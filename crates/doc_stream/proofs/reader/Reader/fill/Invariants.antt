@@ -1,4 +1,4 @@
-use Rattle.std.proofs.Common.{◌≡◌, ◌-◌, ◌≤◌, ℕ, List, length, take, IsTrue}
+use Rattle.std.proofs.Common.{◌≡◌, ◌-◌, ◌≤◌, length, take, IsTrue}
 use Rattle.doc_stream.specs.Sources.{asked_of}
 use Rattle.doc_stream.specs.Steps.{Moves, Takes}
 use Rattle.doc_stream.proofs.reader.Reader.fill.Given as goal

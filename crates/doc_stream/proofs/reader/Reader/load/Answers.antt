@@ -1,9 +1,8 @@
-use Rattle.std.proofs.Common.{◌≡◌, ◌≤◌, ℕ, List, [], take, refl, sym, ◌∙◌, arith, rules, ap, subst}
+use Rattle.std.proofs.Common.{◌≡◌, ℕ, List, [], take, refl, ◌∙◌, arith, ap, subst}
 use Rattle.std.proofs.lemmas.Result.{err_from_is_err_and}
-use Rattle.std.proofs.lemmas.Grind.{common_steps}
 use Rattle.doc_stream.specs.Sources.{asked_of}
 use Rattle.doc_stream.specs.Steps.{IsNotOpen, Place, Stands, Unsealed}
-use Rattle.doc_stream.proofs.Loads.{loads_open, loads_records, loads_others, unsealed, reason_of}
+use Rattle.doc_stream.proofs.Loads.{loads_others, unsealed, reason_of}
 use Rattle.doc_stream.proofs.reader.Reader.load.Goals as goal
 
 pub returns-in_err-kind-clause-reason : goal.returns-in_err-kind-clause-reason

@@ -1,8 +1,8 @@
-use Rattle.std.proofs.Common.{◌≡◌, ◌≤◌, ◌+◌, ℕ, List, ◌++◌, length, refl, sym, ◌∙◌, arith, ap, subst}
+use Rattle.std.proofs.Common.{◌≡◌, ◌+◌, ◌++◌, length, ◌∙◌, arith}
 use Rattle.std.proofs.lemmas.Result.{err_from_is_err_and}
 use Rattle.std.proofs.Common.{length-append}
 use Rattle.doc_stream.specs.Sources.{asked_of}
-use Rattle.doc_stream.specs.Steps.{Takes, Stops}
+use Rattle.doc_stream.specs.Steps.{Stops}
 use Rattle.doc_stream.proofs.Loads.{reason_of}
 use Rattle.doc_stream.proofs.Steps.{stops_more}
 use Rattle.doc_stream.proofs.Fills.{stops_after, takes_after}

@@ -1,7 +1,7 @@
-use Rattle.std.proofs.Common.{◌≡◌, ◌≤◌, ◌+◌, ◌-◌, ℕ, List, [], length, Bool, true, false, refl, sym, ◌∙◌, arith, ap, subst}
+use Rattle.std.proofs.Common.{◌≡◌, ◌+◌, ◌-◌, ℕ, Bool, true, false, sym, arith, subst}
 use Rattle.std.proofs.lemmas.Result.{err_from_is_err_and}
 use Rattle.doc_stream.specs.Sources.{asked_of}
-use Rattle.doc_stream.specs.Steps.{Place, IsWithin, Loads, Stops, Unsealed}
+use Rattle.doc_stream.specs.Steps.{IsWithin, Loads, Stops, Unsealed}
 use Rattle.doc_stream.proofs.Loads.{reason_of, reason_damaged}
 use Rattle.doc_stream.proofs.Steps.{stops_end, stops_unsealed, stops_other, stops_empty, turned}
 use Rattle.doc_stream.proofs.reader.Reader.turn.Goals as goal
