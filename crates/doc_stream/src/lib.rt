@@ -11,3 +11,6 @@ mod tail;
 
 pub use reading::{read, scan};
 pub use tail::Tail;
+
+#[cfg(test)]
+mod tests;

@@ -1,4 +1,4 @@
-ghost use Rattle.std.specs.Prelude.{◌≡◌, ◌⊎◌, ◌≤◌, ◌<◌, ◌-◌, ◌^◌, ◌++◌, ℕ, List, length, Some, None, IsTrue, IfOk, IfErr, OnOk, Ok, Err};
+ghost use Rattle.std.specs.Prelude.{◌≡◌, ◌⊎◌, ◌≤◌, ◌<◌, ◌-◌, ◌/◌, ◌^◌, ◌++◌, ℕ, List, length, Some, None, IsTrue, IfOk, IfErr, OnOk, Ok, Err};
 ghost use Rattle.forest_model.specs.declared.refusal.Refusal.TheVariants as Refusal;
 ghost use Rattle.forest_model.specs.declared.stored.Rec.{Rec};
 ghost use Rattle.doc_stream.specs.Causes.{BreaksRecord, BreaksRecords, Reason};
@@ -95,27 +95,29 @@ pub fn read<V: View>(
         tail: Some(tail),
         end: 0,
     };
-    let mut reader = reader_at(view, &source, tail, address)?;
+    let mut reader = Reader::new(address / 4096);
+    go_to(view, &source, tail, address, &mut reader)?;
     let record = reader.record(alloc, view, &source)?;
     Ok(record)
 }
 
-// A reader at an address.
-fn reader_at<V: View>(
+// Sets a reader that stands before the block of an address on that address.
+fn go_to<V: View>(
     view: &mut V,
     source: &Source,
     tail: &Tail,
     address: u64,
-) -> Result<Reader, Refusal>
-    requires { (asked_of source.now).tail ≡ Some tail.now }
-    ensures next { IfOk result (λ reader. (1 ≤ reader.next) × (reader.next ≤ 2 ^ 52)) }
-    ensures starts { IsTrue V.tells → IfOk result (StartsFrom (asked_of source.now) (V.content view.old) tail.now address) }
+    reader: &mut Reader,
+) -> Result<(), Refusal>
+    requires open_block { (asked_of source.now).tail ≡ Some tail.now }
+    requires at { reader.old.next ≡ address / 4096 }
+    ensures next { OnOk result ((1 ≤ reader.new.next) × (reader.new.next ≤ 2 ^ 52)) }
+    ensures starts { IsTrue V.tells → OnOk result (StartsFrom (asked_of source.now) (V.content view.old) tail.now address reader.new) }
     ensures reason { IfErr result (Reason V.tells source.now.revision (BreaksRecord source.now.revision (V.content view.old) tail.now address) (V.faults view.old) (V.faults view.new)) }
     ensures content { IsTrue V.tells → V.content view.new ≡ V.content view.old }
     ensures counts { V.faults view.old ≤ V.faults view.new }
     ensures untroubled { OnOk result (V.faults view.new ≡ V.faults view.old) }
 {
-    let mut reader = Reader::new(address / 4096);
     if !reader.load(view, source)? {
         return Err(reader.damaged(source));
     }
@@ -124,5 +126,5 @@ fn reader_at<V: View>(
         return Err(reader.damaged(source));
     }
     reader.skip(offset);
-    Ok(reader)
+    Ok(())
 }
