@@ -1,4 +1,4 @@
-ghost use Rattle.std.specs.Prelude.{false, [], IfOk, IsTrue};
+ghost use Rattle.std.specs.Prelude.{◌≡◌, ◌≤◌, false, [], length, IfOk, IsTrue};
 ghost use Rattle.doc_stream.specs.Records.{is_record};
 
 use super::*;
@@ -25,6 +25,15 @@ impl Blocks {
             blocks,
             failing: false,
             faults: 0,
+        }
+    }
+
+    // Turns two bits of a byte of the first block round.
+    fn damage(&mut self, n: usize) {
+        if let Some(block) = self.blocks.as_mut_slice().get_mut(0)
+            && n < 4096
+        {
+            block.bytes[n] ^= 0x21;
         }
     }
 }
@@ -78,7 +87,40 @@ fn record(
     Ok(rec)
 }
 
-// A record of each kind: of 31, 33, 29 and 24 bytes.
+// So many of a byte.
+fn filled(alloc: Global, byte: u8, len: usize) -> Result<Vec<u8>, Fail>
+    ensures { IfOk result (λ bytes. length bytes.items ≡ len) }
+{
+    Ok(vec![in alloc; byte; len]?)
+}
+
+// A record that sets `apple` to a body of so many bytes.
+fn long(alloc: Global, len: usize) -> Result<Rec, Fail>
+    ensures { IfOk result (λ rec. IsTrue (is_record rec)) }
+{
+    let body = filled(alloc, b'x', len)?;
+    record(alloc, 1, 1, b"apple", b"", body.as_slice())
+}
+
+// A record of the greatest lengths.
+fn greatest(alloc: Global) -> Result<Rec, Fail>
+    ensures { IfOk result (λ rec. IsTrue (is_record rec)) }
+{
+    let key = filled(alloc, b'k', 3500)?;
+    let meta = filled(alloc, b'm', 255)?;
+    let body = filled(alloc, b'b', 1_048_576)?;
+    record(
+        alloc,
+        1,
+        u64::MAX,
+        key.as_slice(),
+        meta.as_slice(),
+        body.as_slice(),
+    )
+}
+
+// A record of each kind, of 31, 33, 29 and 24 bytes; others of 4 * 4,064 - 29 bytes, of 5,029 bytes, and of
+// 24 + 3,500 + 255 + 1,048,576 bytes, which are 258 times 4,064 and 3,843 more.
 fn one_of(alloc: Global, n: u64) -> Result<Rec, Fail>
     ensures { IfOk result (λ rec. IsTrue (is_record rec)) }
 {
@@ -86,26 +128,23 @@ fn one_of(alloc: Global, n: u64) -> Result<Rec, Fail>
         0 => record(alloc, 3, 0, b"default", b"", b""),
         1 => record(alloc, 1, 1, b"apple", b"m", b"red"),
         2 => record(alloc, 2, 2, b"apple", b"", b""),
-        _ => record(alloc, 4, 0, b"", b"", b""),
+        3 => record(alloc, 4, 0, b"", b"", b""),
+        4 => long(alloc, 16198),
+        5 => long(alloc, 5000),
+        _ => greatest(alloc),
     }
 }
 
-// A record that sets `apple` to a body of so many bytes.
-fn long(alloc: Global, len: usize) -> Result<Rec, Fail>
-    ensures { IfOk result (λ rec. IsTrue (is_record rec)) }
-{
-    let body = vec![in alloc; b'x'; len]?;
-    record(alloc, 1, 1, b"apple", b"", body.as_slice())
-}
-
-// Puts a record into the open block of a small file.
-fn put(tail: &mut Tail, out: &mut Vec<Block>, rec: &Rec) -> Result<u64, Fail>
-    requires { IsTrue (is_record rec.now) }
-{
-    if tail.number() > 1000 {
-        return Err(Fail::new("no small file"));
+// Puts records into the open block of a small file.
+fn put(alloc: Global, tail: &mut Tail, out: &mut Vec<Block>, which: &[u64]) -> Result<(), Fail> {
+    for n in which {
+        let rec = one_of(alloc, *n)?;
+        if tail.number() > 1000 {
+            return Err(Fail::new("no small file"));
+        }
+        tail.put(&rec, REV, out)?;
     }
-    Ok(tail.put(rec, REV, out)?)
+    Ok(())
 }
 
 // Puts the open block behind the others.
@@ -116,39 +155,113 @@ fn pad(tail: &mut Tail, out: &mut Vec<Block>) -> Result<(), Fail> {
     Ok(())
 }
 
-// A file with the records of each kind in one block.
-fn small(alloc: Global) -> Result<Vec<Block>, Fail> {
+// A file with these records, and its open block.
+fn open_file(alloc: Global, which: &[u64]) -> Result<(Vec<Block>, Tail), Fail> {
     let mut out = Vec::new(alloc);
     let mut tail = Tail::new(alloc, 0)?;
-    for n in 0..4 {
-        let rec = one_of(alloc, n)?;
-        put(&mut tail, &mut out, &rec)?;
-    }
+    put(alloc, &mut tail, &mut out, which)?;
+    Ok((out, tail))
+}
+
+// A file with these records and no open block.
+fn file(alloc: Global, which: &[u64]) -> Result<Vec<Block>, Fail> {
+    let (mut out, mut tail) = open_file(alloc, which)?;
     pad(&mut tail, &mut out)?;
     Ok(out)
 }
 
-// The records of each kind, with these addresses.
-fn each_at(alloc: Global, addresses: [u64; 4]) -> Result<Recs, Fail> {
+// Runs in blocks 1 and 3; block 0 is a stale one, and block 2 one of another kind.
+fn runs(alloc: Global) -> Result<Vec<Block>, Fail> {
+    let stale = filled(alloc, 1, 4064)?;
+    let mut out = Vec::from_slice(alloc, &[seal(1, REV, 0, stale.as_slice())])?;
+    let mut tail = Tail::new(alloc, 1)?;
+    put(alloc, &mut tail, &mut out, &[0, 1])?;
+    pad(&mut tail, &mut out)?;
+    out.push(seal(2, REV, 2, b"node"))?;
+    tail.restart(3);
+    put(alloc, &mut tail, &mut out, &[2, 3])?;
+    pad(&mut tail, &mut out)?;
+    Ok(out)
+}
+
+// Whether the records of a range are these, each with its address.
+fn is_scanned(
+    alloc: Global,
+    blocks: Vec<Block>,
+    from: u64,
+    to: u64,
+    rows: &[(u64, u64)],
+) -> Result<bool, Fail>
+    requires { to ≤ 10 }
+{
     let mut records = Recs::new(alloc);
-    let mut n: u64 = 0;
-    for address in addresses {
-        records.push((address, one_of(alloc, n)?))?;
-        n = n.saturating_add(1);
+    for row in rows {
+        records.push((row.1, one_of(alloc, row.0)?))?;
     }
-    Ok(records)
+    let mut view = Blocks::new(blocks);
+    Ok(scan(alloc, &mut view, REV, from, to)? == records)
 }
 
 #[test]
 fn a_record_of_each_kind(rt: HostRuntime) -> Result<(), Fail> {
     let alloc = rt.alloc();
-    let mut view = Blocks::new(small(alloc)?);
-    let found = scan(alloc, &mut view, REV, 0, 1)?;
-    assert!(rt; found == each_at(alloc, [0, 31, 64, 93])?);
+    let blocks = file(alloc, &[0, 1, 2, 3])?;
+    assert!(rt; is_scanned(alloc, blocks, 0, 1, &[(0, 0), (1, 31), (2, 64), (3, 93)])?);
     Ok(())
 }
 
-// The record of the format's description, in a block of its own.
+#[test]
+fn a_record_over_four_blocks(rt: HostRuntime) -> Result<(), Fail> {
+    let alloc = rt.alloc();
+    let blocks = file(alloc, &[2, 4, 3])?;
+    assert!(rt; is_scanned(alloc, blocks, 0, 5, &[(2, 0), (4, 29), (3, 16384)])?);
+    Ok(())
+}
+
+#[test]
+fn runs_among_other_blocks(rt: HostRuntime) -> Result<(), Fail> {
+    let alloc = rt.alloc();
+    let blocks = runs(alloc)?;
+    assert!(rt;
+        is_scanned(
+            alloc,
+            blocks,
+            1,
+            4,
+            &[(0, 4096), (1, 4127), (2, 12288), (3, 12317)]
+        )?
+    );
+    Ok(())
+}
+
+// In the file, over its last block and the open one, and in the open one.
+#[test]
+fn records_in_the_open_block(rt: HostRuntime) -> Result<(), Fail> {
+    let alloc = rt.alloc();
+    let (blocks, tail) = open_file(alloc, &[2, 5, 1])?;
+    let mut view = Blocks::new(blocks);
+    for (n, address) in [(2, 0), (5, 29), (1, 4096 + 994)] {
+        let rec = one_of(alloc, n)?;
+        assert!(rt;
+            read(alloc, &mut view, &tail, REV, address) == Ok(rec),
+            "at {address}"
+        );
+    }
+    Ok(())
+}
+
+#[test]
+fn the_greatest_record(rt: HostRuntime) -> Result<(), Fail> {
+    let alloc = rt.alloc();
+    let (blocks, tail) = open_file(alloc, &[6])?;
+    let rec = greatest(alloc)?;
+    let mut view = Blocks::new(blocks);
+    assert_eq!(rt; tail.address(), 258 * 4096 + 3843);
+    assert!(rt; read(alloc, &mut view, &tail, REV, 0) == Ok(rec));
+    Ok(())
+}
+
+// The record of the format's description.
 #[test]
 fn the_record_of_the_format(rt: HostRuntime) -> Result<(), Fail> {
     const APPLE: [u8; 32] = [
@@ -162,103 +275,16 @@ fn the_record_of_the_format(rt: HostRuntime) -> Result<(), Fail> {
     let rec = read(alloc, &mut view, &tail, REV, 0)?;
     assert!(rt; (rec.kind, rec.store, rec.seq) == (1, 0, 1));
     assert!(rt; rec.key.as_slice() == b"apple".as_slice());
-    assert!(rt; rec.meta.is_empty());
     assert!(rt; rec.body.as_slice() == b"red".as_slice());
-    Ok(())
-}
-
-// 24 + 3,500 + 255 + 1,048,576 bytes are 258 blocks of 4,064 and 3,843 bytes more.
-#[test]
-fn the_greatest_record(rt: HostRuntime) -> Result<(), Fail> {
-    let alloc = rt.alloc();
-    let body = vec![in alloc; b'b'; 1048576]?;
-    let rec = record(
-        alloc,
-        1,
-        u64::MAX,
-        &[b'k'; 3500],
-        &[b'm'; 255],
-        body.as_slice(),
-    )?;
-    let mut out = Vec::new(alloc);
-    let mut tail = Tail::new(alloc, 0)?;
-    put(&mut tail, &mut out, &rec)?;
-    assert_eq!(rt; out.len(), 258);
-    let mut view = Blocks::new(out);
-    assert!(rt; read(alloc, &mut view, &tail, REV, 0) == Ok(rec));
-    assert!(rt; scan(alloc, &mut view, REV, 0, 258).is_err());
-    Ok(())
-}
-
-// A record of 29 bytes, one of 4 * 4,064 - 29 bytes that spans four blocks to their end, and one behind it.
-#[test]
-fn a_record_over_four_blocks(rt: HostRuntime) -> Result<(), Fail> {
-    let alloc = rt.alloc();
-    let mut out = Vec::new(alloc);
-    let mut tail = Tail::new(alloc, 0)?;
-    put(&mut tail, &mut out, &one_of(alloc, 2)?)?;
-    put(&mut tail, &mut out, &long(alloc, 16198)?)?;
-    assert_eq!(rt; tail.address(), 4 * 4096);
-    put(&mut tail, &mut out, &one_of(alloc, 3)?)?;
-    pad(&mut tail, &mut out)?;
-    let mut expected = Recs::new(alloc);
-    expected.push((0, one_of(alloc, 2)?))?;
-    expected.push((29, long(alloc, 16198)?))?;
-    expected.push((4 * 4096, one_of(alloc, 3)?))?;
-    let mut view = Blocks::new(out);
-    assert!(rt; scan(alloc, &mut view, REV, 0, 5) == Ok(expected));
-    Ok(())
-}
-
-// Runs in blocks 1 and 3; block 0 is a stale one, and block 2 one of another kind.
-#[test]
-fn runs_among_other_blocks(rt: HostRuntime) -> Result<(), Fail> {
-    let alloc = rt.alloc();
-    let mut out = Vec::from_slice(alloc, &[seal(1, REV, 0, &[1; 4064])])?;
-    let mut tail = Tail::new(alloc, 1)?;
-    put(&mut tail, &mut out, &one_of(alloc, 0)?)?;
-    put(&mut tail, &mut out, &one_of(alloc, 1)?)?;
-    pad(&mut tail, &mut out)?;
-    out.push(seal(2, REV, 2, b"node"))?;
-    tail.restart(3);
-    put(&mut tail, &mut out, &one_of(alloc, 2)?)?;
-    put(&mut tail, &mut out, &one_of(alloc, 3)?)?;
-    pad(&mut tail, &mut out)?;
-    let mut view = Blocks::new(out);
-    let found = scan(alloc, &mut view, REV, 1, 4)?;
-    assert!(rt; found == each_at(alloc, [4096, 4127, 12288, 12317])?);
-    Ok(())
-}
-
-// In the file, over its last block and the open one, and in the open one.
-#[test]
-fn records_in_the_open_block(rt: HostRuntime) -> Result<(), Fail> {
-    let alloc = rt.alloc();
-    let mut out = Vec::new(alloc);
-    let mut tail = Tail::new(alloc, 0)?;
-    put(&mut tail, &mut out, &one_of(alloc, 2)?)?;
-    put(&mut tail, &mut out, &long(alloc, 5000)?)?;
-    put(&mut tail, &mut out, &one_of(alloc, 1)?)?;
-    let mut view = Blocks::new(out);
-    assert!(rt; read(alloc, &mut view, &tail, REV, 0) == Ok(one_of(alloc, 2)?));
-    assert!(rt; read(alloc, &mut view, &tail, REV, 29) == Ok(long(alloc, 5000)?));
-    assert!(rt; read(alloc, &mut view, &tail, REV, 4096 + 994) == Ok(one_of(alloc, 1)?));
     Ok(())
 }
 
 #[test]
 fn no_record_at_an_address(rt: HostRuntime) -> Result<(), Fail> {
     let alloc = rt.alloc();
-    let mut view = Blocks::new(small(alloc)?);
+    let mut view = Blocks::new(file(alloc, &[0, 1, 2, 3])?);
     let tail = Tail::new(alloc, 1)?;
-    for (address, block) in [
-        (1, 0),
-        (117, 0),
-        (4095, 0),
-        (4096, 1),
-        (8192, 2),
-        (u64::MAX, u64::MAX / 4096),
-    ] {
+    for (address, block) in [(1, 0), (117, 0), (4095, 0), (4096, 1), (8192, 2)] {
         let found = read(alloc, &mut view, &tail, REV, address);
         assert!(rt;
             found == Err(Refusal::Damaged { file: REV, block }),
@@ -272,14 +298,9 @@ fn no_record_at_an_address(rt: HostRuntime) -> Result<(), Fail> {
 #[test]
 fn damage_at_each_byte(rt: HostRuntime) -> Result<(), Fail> {
     let alloc = rt.alloc();
-    let blocks = small(alloc)?;
-    let Some(whole) = blocks.as_slice().first() else {
-        return Err(Fail::new("no block"));
-    };
+    let mut view = Blocks::new(file(alloc, &[0, 1, 2, 3])?);
     for n in 0..4096 {
-        let mut block = *whole;
-        block.bytes[n] ^= 0x21;
-        let mut view = Blocks::new(Vec::from_slice(alloc, &[block])?);
+        view.damage(n);
         let found = scan(alloc, &mut view, REV, 0, 1);
         assert!(rt;
             found
@@ -289,7 +310,9 @@ fn damage_at_each_byte(rt: HostRuntime) -> Result<(), Fail> {
                 }),
             "at {n}"
         );
+        view.damage(n);
     }
+    assert!(rt; scan(alloc, &mut view, REV, 0, 1).is_ok());
     Ok(())
 }
 
@@ -297,11 +320,9 @@ fn damage_at_each_byte(rt: HostRuntime) -> Result<(), Fail> {
 #[test]
 fn no_records(rt: HostRuntime) -> Result<(), Fail> {
     let alloc = rt.alloc();
-    let gone = [
-        4, 0, 0, 0, 0, 0, 0, 0, 0, 0, 0, 0, 0, 0, 0, 7, 0, 0, 0, 0, 0, 0, 0, 0,
-    ];
     for n in [0, 1, 3, 7, 23] {
-        let mut head = gone;
+        let mut head = [0; 24];
+        head[0] = 4;
         head[n] = 5;
         let mut view = Blocks::new(Vec::from_slice(alloc, &[seal(1, REV, 0, &head)])?);
         let found = scan(alloc, &mut view, REV, 0, 1);
@@ -314,8 +335,7 @@ fn no_records(rt: HostRuntime) -> Result<(), Fail> {
             "at {n}"
         );
     }
-    let mut view = Blocks::new(Vec::from_slice(alloc, &[seal(1, REV, 0, &gone)])?);
-    assert!(rt; scan(alloc, &mut view, REV, 0, 1).is_ok());
+    let mut view = Blocks::new(file(alloc, &[3])?);
     assert!(rt; scan(alloc, &mut view, 4, 0, 1) == Err(Refusal::Damaged { file: 4, block: 0 }));
     Ok(())
 }
@@ -323,7 +343,7 @@ fn no_records(rt: HostRuntime) -> Result<(), Fail> {
 #[test]
 fn a_fault_is_answered(rt: HostRuntime) -> Result<(), Fail> {
     let alloc = rt.alloc();
-    let mut view = Blocks::new(small(alloc)?);
+    let mut view = Blocks::new(file(alloc, &[3])?);
     let tail = Tail::new(alloc, 1)?;
     view.failing = true;
     assert!(rt; scan(alloc, &mut view, REV, 0, 1) == Err(Refusal::DiskFault));
