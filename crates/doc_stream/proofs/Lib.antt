@@ -1,1 +1,8 @@
 mod Puts
+mod Blocks
+mod Steps
+mod Loads
+mod Fills
+mod RecordBytes
+mod RangeScans
+mod AddressReads

@@ -3,7 +3,6 @@ use Rattle.std.specs.Prelude.{◌≡◌, ◌⊎◌, ℕ, ◌+◌, ◌/◌, ◌<�
 use Rattle.block_host.specs.declared.block.Block.{Block}
 use Rattle.block_host.specs.Disk.{risen}
 use Rattle.forest_model.specs.declared.refusal.Refusal.{Refusal}
-use Rattle.forest_model.specs.declared.refusal.Refusal.TheVariants as Refusal
 use Rattle.forest_model.specs.declared.stored.Rec.{Rec}
 use Rattle.doc_stream.specs.OpenBlock.{OpenBlock}
 use Rattle.doc_stream.specs.Runs.{RecordsOf}
@@ -20,9 +19,9 @@ pub record BreaksRecords (revision : ℕ) (file : List Block) (start count block
   pub broken : (other : List Block) (records : List (ℕ × Rec)) → SameUpTo block file other → RecordsOf revision other start count records → ⊥
 
 -- a block at or behind the address by which no record begins at the address
-pub record BreaksRecord (revision : ℕ) (file : List Block) (open : OpenBlock) (address block : ℕ) : Type 0 where
+pub record BreaksRecord (revision : ℕ) (file : List Block) (tail : OpenBlock) (address block : ℕ) : Type 0 where
   pub asked : address / 4096 ≤ block
-  pub broken : (other : List Block) (r : Rec) → SameUpTo block file other → RecordAt revision other open address r → ⊥
+  pub broken : (other : List Block) (r : Rec) → SameUpTo block file other → RecordAt revision other tail address r → ⊥
 
 -- The reasons not to give what was asked: no memory; a count of faults that rose; a block that breaks the records.
 abbrev pub Reason : Bool → ℕ → (ℕ → Type 0) → ℕ → ℕ → Refusal → Type 0

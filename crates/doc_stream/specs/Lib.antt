@@ -3,3 +3,9 @@ pub mod OpenBlock
 pub mod Bounds
 pub mod Runs
 pub mod Fold
+pub mod Reading
+pub mod Causes
+pub mod Steps
+pub mod Heads
+pub mod Sources
+pub mod Scans
