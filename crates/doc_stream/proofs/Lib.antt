@@ -1,1 +1,4 @@
-mod Puts
+pub mod Filled
+pub mod Fronts
+pub mod KeptAt
+pub mod Puts
