@@ -1,5 +1,5 @@
 -- What begins at an address stays there when bytes are put and blocks are appended.
-use Rattle.std.proofs.Common.{◌≡◌, ◌≢◌, ◌⊎◌, ℕ, ◌+◌, ◌<◌, ◌≤◌, ◌/◌, ◌%◌, List, [], ◌∷◌, ◌++◌, length, drop, Some, slice_get, refl, sym, ◌∙◌, ap, subst, ap₂, IsTrue, inl, inr, ⊎_elim, arith, length-append, append_assoc}
+use Rattle.std.proofs.Common.{◌≡◌, ◌≢◌, ◌⊎◌, ℕ, ◌+◌, ◌<◌, ◌≤◌, ◌/◌, ◌%◌, List, [], ◌∷◌, ◌++◌, length, drop, Some, slice_get, refl, sym, ◌∙◌, ap, subst, ap₂, IsTrue, inl, inr, ⊎_elim, arith, length-append, append_assoc, append-nil}
 use Rattle.std.proofs.lemmas.Bool.{cases_lt}
 use Rattle.std.proofs.lemmas.List.{drop_all, drop-append-le}
 use Rattle.std.proofs.lemmas.Option.{slice_get_within}
@@ -10,7 +10,7 @@ use Rattle.doc_stream.specs.OpenBlock.{OpenBlock}
 use Rattle.doc_stream.specs.Reading.{Holds, AreHeld, IsInside, from_offset, RecordAt}
 use Rattle.doc_stream.specs.Records.{record_bytes, is_record}
 use Rattle.doc_stream.specs.Runs.{Piece, Follows, Spreads}
-use Rattle.doc_stream.proofs.Fronts.{cons≢nil, nil_front, got_still}
+use Rattle.doc_stream.proofs.Fronts.{cons≢nil, nil_front, got_still, got_at}
 
 -- Blocks were appended, and what was open is still there: it was nothing, or its bytes begin the block of its number.
 pub record Keeps (revision : ℕ) (file grown : List Block) (before after : OpenBlock) : Type 0 where
@@ -144,3 +144,17 @@ record_kept revision file grown before after keeps address r stands = by stands.
             subst (λ (b : ℕ). Spreads (record_bytes r) (record { block = b; offset = address % 4096; bytes = drop (address % 4096) p.bytes } ∷ pieces) behind) held.0 spreads in
         record_from revision grown after address r (length p.bytes) stands.is_record inside
         (kept revision file grown before after keeps pieces (address / 4096) (address % 4096) p.bytes (record_bytes r) behind (record_some r) held.2 held.3 there)
+
+-- the open block was padded out
+pub pad_keeps : (revision : ℕ) (before : OpenBlock) (file : List Block) (block : Block) → before.number ≡ length file → IsSealed revision before.number 1 before.bytes block → Keeps revision file (file ++ block ∷ []) before (record { number = before.number + 1; bytes = [] })
+pad_keeps revision before file block is_end sealed = record {
+  at_end = is_end;
+  more = block ∷ [];
+  whole = refl;
+  behind = omega arith;
+  opened = inr ([], inr ((λ e. omega arith), block, got_at file [] block before.number is_end, subst (λ (l : List ℕ). IsSealed revision before.number 1 l block) (sym (append-nil before.bytes)) sealed));
+}
+
+-- blocks were appended where nothing was open
+pub blocks_keep : (revision : ℕ) (before after : OpenBlock) (file more : List Block) → before.number ≡ length file → before.bytes ≡ [] → before.number ≤ after.number → Keeps revision file (file ++ more) before after
+blocks_keep revision before after file more is_end empty behind = record { at_end = is_end; more = more; whole = refl; behind = behind; opened = inl empty }

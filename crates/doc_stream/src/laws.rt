@@ -1,4 +1,5 @@
-ghost use Rattle.std.specs.Prelude.{◌≡◌, ◌-◌, ◌<◌, ℕ, List, [], length, slice_get, Some};
+ghost use Rattle.std.specs.Prelude.{◌≡◌, ◌+◌, ◌-◌, ◌<◌, ◌≤◌, ℕ, List, [], ◌∷◌, ◌++◌, length, slice_get, Some};
+ghost use Rattle.block_host.specs.Sealed.{IsSealed};
 ghost use Rattle.block_host.specs.declared.block.Block.{Block};
 ghost use Rattle.forest_model.specs.declared.stored.Rec.{Rec};
 ghost use Rattle.doc_stream.specs.OpenBlock.{OpenBlock, PutsBytes};
@@ -25,5 +26,19 @@ pub fn written_is_read()
 pub fn puts_keep_records()
     ensures { (revision : ℕ) (bytes : List ℕ) (before after : OpenBlock) (file grown : List Block) (address : ℕ) (r : Rec) → before.number ≡ length file
         → length before.bytes < 4064 → length after.bytes < 4064 → PutsBytes revision bytes before after file grown → RecordAt revision file before address r → RecordAt revision grown after address r }
+{
+}
+
+/// Nor does it go when the open block is padded out.
+pub fn pads_keep_records()
+    ensures { (revision : ℕ) (before : OpenBlock) (file : List Block) (block : Block) (address : ℕ) (r : Rec) → before.number ≡ length file → IsSealed revision before.number 1 before.bytes block
+        → RecordAt revision file before address r → RecordAt revision (file ++ block ∷ []) (record { number = before.number + 1; bytes = [] }) address r }
+{
+}
+
+/// Nor when blocks are appended where nothing is open, wherever behind them the next one is opened.
+pub fn blocks_keep_records()
+    ensures { (revision : ℕ) (before after : OpenBlock) (file more : List Block) (address : ℕ) (r : Rec) → before.number ≡ length file → before.bytes ≡ [] → length file ≤ after.number
+        → RecordAt revision file before address r → RecordAt revision (file ++ more) after address r }
 {
 }

@@ -8,6 +8,8 @@ mod laws;
 mod reading;
 mod tail;
 
-pub use laws::{puts_keep_records, written_is_read, written_is_scanned};
+pub use laws::{
+    blocks_keep_records, pads_keep_records, puts_keep_records, written_is_read, written_is_scanned,
+};
 pub use reading::{read, scan};
 pub use tail::Tail;
