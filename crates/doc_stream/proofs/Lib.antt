@@ -2,3 +2,4 @@ pub mod Filled
 pub mod Fronts
 pub mod KeptAt
 pub mod Puts
+pub mod WrittenRead
