@@ -1,3 +1,4 @@
+pub mod Extended
 pub mod Filled
 pub mod Fronts
 pub mod KeptAt

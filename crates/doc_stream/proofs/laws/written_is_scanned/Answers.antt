@@ -1,0 +1,5 @@
+use Rattle.doc_stream.proofs.Extended.{go_on}
+use Rattle.doc_stream.proofs.laws.written_is_scanned.Goals as goal
+
+pub returns : goal.returns
+returns c revision first last steps begins wrote empty = ?
