@@ -51,7 +51,7 @@ left_further front pieces p =
     ap left (sym (append_assoc front (p ∷ []) (left pieces))) ∙ left_behind (front ++ p ∷ []) pieces ∙ ap left (append_assoc front (p ∷ []) pieces)
 
 -- what is left where the last piece has no bytes, and where it has some
-left_none : (block offset : ℕ) (front : List Piece) → left (front ++ piece block offset [] ∷ []) ≡ left front
+pub left_none : (block offset : ℕ) (front : List Piece) → left (front ++ piece block offset [] ∷ []) ≡ left front
 left_none block offset front = left-append front (piece block offset [] ∷ []) ∙ append-nil (left front)
 
 left_last : (p : Piece) (front pieces : List Piece) → p.bytes ≢ [] → left (front ++ p ∷ pieces) ≡ left front ++ p ∷ left pieces

@@ -1,4 +1,4 @@
-use Rattle.doc_stream.proofs.Extended.{go_on}
+use Rattle.doc_stream.proofs.WrittenScanned.{IsScanned}
 use Rattle.doc_stream.proofs.laws.written_is_scanned.Goals as goal
 
 pub returns : goal.returns
