@@ -1,11 +1,11 @@
 -- Pieces that are records, and go on being them when the last one gets more bytes and others follow.
-use Rattle.std.proofs.Common.{◌≡◌, ◌≢◌, ℕ, ◌+◌, List, [], ◌∷◌, ◌++◌, length, IsTrue, refl, sym, ◌∙◌, ap, ap₂, subst, inl, inr, ⊎_elim, arith, length-append, append_assoc, append-nil}
+use Rattle.std.proofs.Common.{◌≡◌, ◌≢◌, ℕ, ◌+◌, List, [], ◌∷◌, ◌++◌, length, refl, sym, ◌∙◌, ap, subst, inl, inr, ⊎_elim, arith, length-append, append_assoc, append-nil}
 use Rattle.std.proofs.lemmas.List.Elements.{filter-append}
 use Rattle.forest_model.specs.declared.stored.Rec.{Rec}
-use Rattle.doc_stream.specs.Records.{record_bytes, is_record, is_empty}
+use Rattle.doc_stream.specs.Records.{record_bytes}
 use Rattle.doc_stream.specs.Runs.{Piece, Follows, Spreads, StartsAt, AreRecords, left}
 use Rattle.doc_stream.proofs.Filled.{left_some, left_empty}
-use Rattle.doc_stream.proofs.Fronts.{cons≢nil, cases_nil, nil_front, nil_rest}
+use Rattle.doc_stream.proofs.Fronts.{cons≢nil, cases_nil, nil_rest}
 
 left-append : (front pieces : List Piece) → left (front ++ pieces) ≡ left front ++ left pieces
 left-append front pieces = filter-append _ front pieces
@@ -101,15 +101,15 @@ module _ (block : ℕ) (added : List ℕ) (others : List Piece) where
         spreads = inl (ends.0, ends.1, refl);
       })
       (λ goes.
-        let later = spreads_into goes.0 front offset tail behind goes.5 in
-        record {
-          into = later.into;
-          from = later.from;
-          rest = later.rest;
-          is = later.is;
-          same_end = later.same_end;
-          spreads = inr (goes.0, goes.1, goes.2, goes.3, follows_into p front offset tail goes.4, later.spreads);
-        })
+      let later = spreads_into goes.0 front offset tail behind goes.5 in
+      record {
+        into = later.into;
+        from = later.from;
+        rest = later.rest;
+        is = later.is;
+        same_end = later.same_end;
+        spreads = inr (goes.0, goes.1, goes.2, goes.3, follows_into p front offset tail goes.4, later.spreads);
+      })
       spreads
 
 -- the records go on behind these
@@ -124,7 +124,7 @@ module _ (block : ℕ) (added : List ℕ) (others : List Piece) (new : List (ℕ
       let here : piece block (offset + length {A = ℕ} []) added ≡ piece block offset added = ap (λ (o : ℕ). piece block o added) (omega arith) in
       same_left new (piece block (offset + length {A = ℕ} []) added ∷ others) (front ++ piece block offset added ∷ others)
       (ap (λ (p : Piece). left (p ∷ others)) here
-        ∙ sym (left-append front (piece block offset added ∷ others) ∙ ap (λ (l : List Piece). l ++ left (piece block offset added ∷ others)) (sym (left_none block offset front) ∙ nothing)))
+      ∙ sym (left-append front (piece block offset added ∷ others) ∙ ap (λ (l : List Piece). l ++ left (piece block offset added ∷ others)) (sym (left_none block offset front) ∙ nothing)))
       are
   none_on front offset (b ∷ tail) nothing are =
       let p = piece block offset (b ∷ tail) in
@@ -137,10 +137,15 @@ module _ (block : ℕ) (added : List ℕ) (others : List Piece) (new : List (ℕ
       let beyond = are.2.0 in
       let spreads : Spreads (record_bytes r) (left front) beyond = subst (λ (l : List Piece). Spreads (record_bytes r) l beyond) (left_none block offset front) are.2.1 in
       let starts : StartsAt a (left front) = subst (StartsAt a) (left_none block offset front) are.1 in
-      let on = later beyond offset [] (same_left records beyond (beyond ++ piece block offset [] ∷ []) (sym (left_none block offset beyond)) are.2.2) behind in
-      (are.0, subst (StartsAt a) is_left (starts_before a (left front) (left rest) starts),
-        (beyond ++ left rest, subst (λ (l : List Piece). Spreads (record_bytes r) l (beyond ++ left rest)) is_left (spreads_before (record_bytes r) (left front) beyond (left rest) spreads),
-          same_left (records ++ new) (beyond ++ rest) (beyond ++ left rest) (sym (left_behind beyond rest)) on))
+      let on = later beyond offset [] (same_left records beyond (beyond ++ piece block offset [] ∷ []) (sym (left_none block offset beyond)) are.2.2) behind in (
+        are.0,
+        subst (StartsAt a) is_left (starts_before a (left front) (left rest) starts),
+        (
+          beyond ++ left rest,
+          subst (λ (l : List Piece). Spreads (record_bytes r) l (beyond ++ left rest)) is_left (spreads_before (record_bytes r) (left front) beyond (left rest) spreads),
+          same_left (records ++ new) (beyond ++ rest) (beyond ++ left rest) (sym (left_behind beyond rest)) on,
+        ),
+      )
   one_on a r records later front offset (b ∷ tail) are behind =
       let before = piece block offset (b ∷ tail) in
       let after = piece block offset (b ∷ tail ++ added) in
@@ -149,10 +154,15 @@ module _ (block : ℕ) (added : List ℕ) (others : List Piece) (new : List (ℕ
       let into = spreads_into block added (left others) (record_bytes r) (left front) offset (b ∷ tail) are.2.0 (subst (λ (l : List Piece). Spreads (record_bytes r) l are.2.0) was_left are.2.1) in
       let rest = piece block into.from (into.rest ++ added) in
       let starts = starts_into a block offset (left front) (left others) (b ∷ tail) (b ∷ tail ++ added) (subst (StartsAt a) was_left are.1) in
-      let on = later into.into into.from into.rest (subst (λ (l : List Piece). AreRecords l records) into.is are.2.2) (subst (λ (n : ℕ). AreRecords (piece block n added ∷ others) new) (sym into.same_end) behind) in
-      (are.0, subst (StartsAt a) is_left starts,
-        (into.into ++ rest ∷ left others, subst (λ (l : List Piece). Spreads (record_bytes r) l (into.into ++ rest ∷ left others)) is_left into.spreads,
-          same_left (records ++ new) (into.into ++ rest ∷ others) (into.into ++ rest ∷ left others) (sym (left_further into.into others rest)) on))
+      let on = later into.into into.from into.rest (subst (λ (l : List Piece). AreRecords l records) into.is are.2.2) (subst (λ (n : ℕ). AreRecords (piece block n added ∷ others) new) (sym into.same_end) behind) in (
+        are.0,
+        subst (StartsAt a) is_left starts,
+        (
+          into.into ++ rest ∷ left others,
+          subst (λ (l : List Piece). Spreads (record_bytes r) l (into.into ++ rest ∷ left others)) is_left into.spreads,
+          same_left (records ++ new) (into.into ++ rest ∷ others) (into.into ++ rest ∷ left others) (sym (left_further into.into others rest)) on,
+        ),
+      )
 
   pub go_on : (records : List (ℕ × Rec)) → GoesOn block added others new records
   go_on [] front offset tail are behind = none_on front offset tail are behind

@@ -1,5 +1,5 @@
 -- Bytes that fill pieces to the last one's end, as those of a record just put do.
-use Rattle.std.proofs.Common.{◌≡◌, ◌≢◌, ◌⊎◌, ℕ, ◌+◌, ◌*◌, suc, ◌<◌, ◌≤◌, ◌/◌, ◌%◌, true, not, List, [], ◌∷◌, ◌++◌, length, drop, Some, slice_get, IsTrue, refl, sym, ◌∙◌, ap, subst, subst₂, inl, inr, ⊎_elim, arith, length-append, append_assoc, append-nil, drop_at}
+use Rattle.std.proofs.Common.{◌≡◌, ◌≢◌, ℕ, ◌+◌, suc, ◌<◌, ◌/◌, ◌%◌, true, not, List, [], ◌∷◌, ◌++◌, length, Some, slice_get, IsTrue, refl, sym, ◌∙◌, ap, subst, subst₂, inl, inr, ⊎_elim, arith, length-append, append_assoc, append-nil, drop_at}
 use Rattle.std.proofs.lemmas.Bool.{cond-true, cond-false, ne_eqb}
 use Rattle.std.proofs.lemmas.List.{nil_from_length}
 use Rattle.block_host.specs.Sealed.{IsSealed}
@@ -9,7 +9,7 @@ use Rattle.doc_stream.specs.OpenBlock.{OpenBlock, AreFull, PutsBytes, address_of
 use Rattle.doc_stream.specs.Reading.{Holds, AreHeld, RecordAt}
 use Rattle.doc_stream.specs.Records.{record_bytes, is_record, is_empty}
 use Rattle.doc_stream.specs.Runs.{Piece, RecordBlocks, Spreads, left}
-use Rattle.doc_stream.proofs.Fronts.{cons≢nil, cases_nil, nil_front, nil_rest, split_front, got_at}
+use Rattle.doc_stream.proofs.Fronts.{cases_nil, nil_front, nil_rest, split_front, got_at}
 use Rattle.doc_stream.proofs.KeptAt.{HeldAt, Keeps, record_from, record_some}
 
 -- a piece with bytes is left, one without is not
@@ -54,6 +54,7 @@ fills_spread bytes p (q ∷ pieces) fills = ⊎_elim ends (goes (fills_spread fi
       spreads = inl ([], sym (fills.1 ∙ ap (λ (l : List ℕ). p.bytes ++ l) empty ∙ append-nil p.bytes) ∙ sym (append-nil bytes), refl);
       nothing = fills_nothing fills.0 q pieces empty fills.5;
     }
+
     goes : SpreadsWhole fills.0 (q ∷ pieces) → fills.0 ≢ [] → SpreadsWhole bytes (p ∷ q ∷ pieces)
     goes rest some = record { behind = rest.behind; spreads = inr (fills.0, fills.1, some, fills.2, fills.3, rest.spreads); nothing = rest.nothing }
 

@@ -89,35 +89,35 @@ kept revision file grown before after keeps [] at offset first bytes beyond some
     ⊎_elim
     (λ here. in_open revision at offset file grown before after bytes first [] beyond keeps some here.0 here.1 next spreads)
     (λ there. ⊎_elim
-      (λ ends. record {
-        first = first;
-        others = [];
-        beyond = record { block = at; offset = offset + length bytes; bytes = ends.0 } ∷ [];
-        held = in_file revision at file grown before after first there.1 keeps there.2 there.3;
-        next = tt;
-        long = omega arith;
-        spreads = inl (ends.0, ends.1, refl);
-      })
-      (λ goes. absurd goes.4)
-      spreads)
+    (λ ends. record {
+      first = first;
+      others = [];
+      beyond = record { block = at; offset = offset + length bytes; bytes = ends.0 } ∷ [];
+      held = in_file revision at file grown before after first there.1 keeps there.2 there.3;
+      next = tt;
+      long = omega arith;
+      spreads = inl (ends.0, ends.1, refl);
+    })
+    (λ goes. absurd goes.4)
+    spreads)
     held
 kept revision file grown before after keeps (q ∷ pieces) at offset first bytes beyond some held next spreads =
     ⊎_elim
     (λ here. in_open revision at offset file grown before after bytes first (q ∷ pieces) beyond keeps some here.0 here.1 next spreads)
     (λ there. ⊎_elim
-      (λ ends. record {
-        first = first;
-        others = [];
-        beyond = record { block = at; offset = offset + length bytes; bytes = ends.0 } ∷ [];
-        held = in_file revision at file grown before after first there.1 keeps there.2 there.3;
-        next = tt;
-        long = omega arith;
-        spreads = inl (ends.0, ends.1, refl);
-      })
-      (λ goes. onward revision at offset (length q.bytes) grown after bytes goes.0 first (in_file revision at file grown before after first there.1 keeps there.2 there.3) goes.1 goes.2 goes.3
-        (kept revision file grown before after keeps pieces (at + 1) 0 q.bytes goes.0 beyond goes.2 next.2 next.3
-          (subst (λ (p : Piece). Spreads goes.0 (p ∷ pieces) beyond) (as_whole (at + 1) q next.0 next.1) goes.5)))
-      spreads)
+    (λ ends. record {
+      first = first;
+      others = [];
+      beyond = record { block = at; offset = offset + length bytes; bytes = ends.0 } ∷ [];
+      held = in_file revision at file grown before after first there.1 keeps there.2 there.3;
+      next = tt;
+      long = omega arith;
+      spreads = inl (ends.0, ends.1, refl);
+    })
+    (λ goes. onward revision at offset (length q.bytes) grown after bytes goes.0 first (in_file revision at file grown before after first there.1 keeps there.2 there.3) goes.1 goes.2 goes.3
+    (kept revision file grown before after keeps pieces (at + 1) 0 q.bytes goes.0 beyond goes.2 next.2 next.3
+    (subst (λ (p : Piece). Spreads goes.0 (p ∷ pieces) beyond) (as_whole (at + 1) q next.0 next.1) goes.5)))
+    spreads)
     held
 
 -- a record at an address, from what begins there
@@ -141,7 +141,7 @@ record_kept revision file grown before after keeps address r stands = by stands.
     by [] behind held inside spreads = absurd inside
     by (p ∷ pieces) behind held inside spreads =
         let there : Spreads (record_bytes r) (record { block = address / 4096; offset = address % 4096; bytes = drop (address % 4096) p.bytes } ∷ pieces) behind =
-            subst (λ (b : ℕ). Spreads (record_bytes r) (record { block = b; offset = address % 4096; bytes = drop (address % 4096) p.bytes } ∷ pieces) behind) held.0 spreads in
+        subst (λ (b : ℕ). Spreads (record_bytes r) (record { block = b; offset = address % 4096; bytes = drop (address % 4096) p.bytes } ∷ pieces) behind) held.0 spreads in
         record_from revision grown after address r (length p.bytes) stands.is_record inside
         (kept revision file grown before after keeps pieces (address / 4096) (address % 4096) p.bytes (record_bytes r) behind (record_some r) held.2 held.3 there)
 

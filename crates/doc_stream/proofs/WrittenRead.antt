@@ -1,5 +1,5 @@
 -- What is written stands at its addresses, step by step.
-use Rattle.std.proofs.Common.{◌≡◌, ◌⊎◌, ℕ, ◌+◌, ◌*◌, ◌/◌, ◌<◌, ◌≤◌, List, [], ◌∷◌, ◌++◌, length, refl, sym, ◌∙◌, ap, subst, ⊎_elim, arith, length-append}
+use Rattle.std.proofs.Common.{◌≡◌, ℕ, ◌+◌, ◌<◌, ◌≤◌, List, [], ◌∷◌, ◌++◌, length, sym, ◌∙◌, ap, subst, ⊎_elim, arith, length-append}
 use Rattle.std.specs.List.{AllByRecursion}
 use Rattle.block_host.specs.declared.block.Block.{Block}
 use Rattle.forest_model.specs.declared.stored.Rec.{Rec}
@@ -53,7 +53,7 @@ put revision r old new was puts =
     record {
       ends = put_at_end revision _ old.tail new.tail old.file new.file was.ends puts.bytes;
       stand = subst (λ (l : List (ℕ × Rec)). AllStand revision new.file new.tail l) (sym puts.records)
-        (all_added (λ (x : ℕ × Rec). RecordAt revision new.file new.tail x.0 x.1) old.records (address_of old.tail.number (length old.tail.bytes), r)
+          (all_added (λ (x : ℕ × Rec). RecordAt revision new.file new.tail x.0 x.1) old.records (address_of old.tail.number (length old.tail.bytes), r)
           (all_kept revision old.file new.file old.tail new.tail old.records (put_keeps revision _ old.tail new.tail old.file new.file number short puts.bytes) was.stand)
           (put_stands revision r old.tail new.tail old.file new.file number short puts.is_record puts.bytes));
     }

@@ -1,5 +1,5 @@
 -- What is written is what a scan finds, step by step.
-use Rattle.std.proofs.Common.{◌≡◌, ◌≢◌, ◌⊎◌, ℕ, ◌+◌, ◌-◌, ◌<◌, List, [], ◌∷◌, ◌++◌, length, IsTrue, refl, sym, ◌∙◌, ap, subst, subst₂, inl, ⊎_elim, arith, length-append, append_assoc, append-nil}
+use Rattle.std.proofs.Common.{◌≡◌, ◌≢◌, ℕ, ◌+◌, ◌-◌, List, [], ◌∷◌, ◌++◌, length, IsTrue, refl, sym, ◌∙◌, ap, subst, subst₂, inl, ⊎_elim, arith, length-append, append_assoc, append-nil}
 use Rattle.block_host.specs.Sealed.{IsSealed}
 use Rattle.block_host.specs.declared.block.Block.{Block}
 use Rattle.forest_model.specs.declared.stored.Rec.{Rec}
@@ -61,12 +61,12 @@ passed revision file others tail start records was empty are =
       counted = omega arith;
       blocks = appended revision file others tail start (length others) [] records was (others_passed revision others file tail.number is_end are);
       are = same_left records (was.pieces ++ open_piece tail ∷ []) (was.pieces ++ [] ++ open_piece behind ∷ [])
-        (ap left was_open ∙ left_none tail.number 0 was.pieces ∙ ap left (sym (append-nil was.pieces)) ∙ sym (left_none behind.number 0 (was.pieces ++ []))) was.are;
+          (ap left was_open ∙ left_none tail.number 0 was.pieces ∙ ap left (sym (append-nil was.pieces)) ∙ sym (left_none behind.number 0 (was.pieces ++ []))) was.are;
     }
 
 -- the record that was put, behind what the open block had
-is_behind : (revision block offset : ℕ) (r : Rec) (added : List ℕ) (others : List Piece) → IsTrue (is_record r) → added ≢ [] → Fills (record_bytes r) (piece block offset added) others → AreRecords (piece block offset added ∷ others) ((address_of block offset, r) ∷ [])
-is_behind revision block offset r added others is some fills =
+is_behind : (block offset : ℕ) (r : Rec) (added : List ℕ) (others : List Piece) → IsTrue (is_record r) → added ≢ [] → Fills (record_bytes r) (piece block offset added) others → AreRecords (piece block offset added ∷ others) ((address_of block offset, r) ∷ [])
+is_behind block offset r added others is some fills =
     let p = piece block offset added in
     let is_left : p ∷ left others ≡ left (p ∷ others) = sym (left_some p others some) in
     by is_left (fills_spread (record_bytes r) p (left others) (fills_left (record_bytes r) p others fills))
@@ -87,18 +87,18 @@ put revision r before after file grown start records is was puts =
         let further = pieces.counted in
         let offset : 0 + length before.bytes ≡ length before.bytes = omega arith in
         let behind : AreRecords (piece before.number (0 + length before.bytes) pieces.added ∷ pieces.others) new =
-            subst (λ (n : ℕ). AreRecords (piece before.number n pieces.added ∷ pieces.others) new) (sym offset)
-            (is_behind revision before.number (length before.bytes) r pieces.added pieces.others is (pieces.some (record_some r)) pieces.fills) in
+        subst (λ (n : ℕ). AreRecords (piece before.number n pieces.added ∷ pieces.others) new) (sym offset)
+        (is_behind before.number (length before.bytes) r pieces.added pieces.others is (pieces.some (record_some r)) pieces.fills) in
         record {
           ends = put_at_end revision (record_bytes r) before after file grown was.ends puts;
           pieces = was.pieces ++ pieces.full;
           count = was.count + pieces.count;
           counted = omega arith;
           blocks = subst (λ (l : List Block). RecordBlocks revision l start (was.count + pieces.count) (was.pieces ++ pieces.full)) (sym puts.out)
-            (appended revision file puts.more before start pieces.count pieces.full records was
+              (appended revision file puts.more before start pieces.count pieces.full records was
               (subst (λ (l : List Block). RecordBlocks revision l before.number pieces.count pieces.full) puts.out pieces.blocks));
           are = subst (λ (l : List Piece). AreRecords l (records ++ new)) (sym (append_assoc was.pieces pieces.full (open_piece after ∷ []) ∙ ap (λ (l : List Piece). was.pieces ++ l) pieces.all))
-            (go_on before.number pieces.added pieces.others new records was.pieces 0 before.bytes was.are behind);
+              (go_on before.number pieces.added pieces.others new records was.pieces 0 before.bytes was.are behind);
         }
 
 -- of a writing

@@ -1,4 +1,4 @@
-use Rattle.std.proofs.Common.{◌+◌, [], ◌∷◌, ◌++◌, arith}
+use Rattle.std.proofs.Common.{◌++◌, arith}
 use Rattle.doc_stream.proofs.KeptAt.{record_kept, blocks_keep}
 use Rattle.doc_stream.proofs.laws.blocks_keep_records.Goals as goal
 

@@ -1,4 +1,4 @@
-use Rattle.std.proofs.Common.{◌+◌, [], ◌∷◌, ◌++◌, arith}
+use Rattle.std.proofs.Common.{◌+◌, [], ◌∷◌, ◌++◌}
 use Rattle.doc_stream.proofs.KeptAt.{record_kept, pad_keeps}
 use Rattle.doc_stream.proofs.laws.pads_keep_records.Goals as goal
 
