@@ -6,3 +6,10 @@ mod Fills
 mod RecordBytes
 mod RangeScans
 mod AddressReads
+mod Extended
+mod Filled
+mod Fronts
+mod Joined
+mod KeptAt
+mod WrittenRead
+mod WrittenScanned

@@ -9,3 +9,4 @@ pub mod Steps
 pub mod Heads
 pub mod Sources
 pub mod Scans
+pub mod Writing

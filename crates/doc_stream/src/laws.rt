@@ -1,0 +1,48 @@
+ghost use Rattle.std.specs.Prelude.{◌≡◌, ◌+◌, ◌-◌, ◌<◌, ◌≤◌, ℕ, List, [], ◌∷◌, ◌++◌, length, slice_get, Some, IsTrue};
+ghost use Rattle.block_host.specs.Sealed.{IsSealed};
+ghost use Rattle.block_host.specs.declared.block.Block.{Block};
+ghost use Rattle.forest_model.specs.declared.stored.Rec.{Rec};
+ghost use Rattle.doc_stream.specs.OpenBlock.{OpenBlock, PutsBytes, address_of};
+ghost use Rattle.doc_stream.specs.Reading.{RecordAt};
+ghost use Rattle.doc_stream.specs.Records.{is_record, record_bytes};
+ghost use Rattle.doc_stream.specs.Runs.{RecordsOf};
+ghost use Rattle.doc_stream.specs.Writing.{Writing, Begins, Wrote};
+
+/// Whatever was put, padded, passed and restarted, in any order: once nothing is open, the records of the range are those
+/// that were put, at their addresses.
+pub fn written_is_scanned()
+    ensures { (revision : ℕ) (first last : Writing) (steps : List Writing) → Begins first → Wrote revision first steps last → last.tail.bytes ≡ []
+        → RecordsOf revision last.file last.start (length last.file - last.start) last.records }
+{}
+
+/// At every moment the record at each of these addresses is the one that was put there.
+pub fn written_is_read()
+    ensures { (revision : ℕ) (first last : Writing) (steps : List Writing) → Begins first → Wrote revision first steps last
+        → (n : ℕ) (address : ℕ) (r : Rec) → slice_get last.records n ≡ Some (address, r) → RecordAt revision last.file last.tail address r }
+{}
+
+/// A record that was put stands at the address at which the open block was, and the open block is right behind the file again.
+pub fn put_stands()
+    ensures stands { (revision : ℕ) (r : Rec) (before after : OpenBlock) (file grown : List Block) → before.number ≡ length file → length before.bytes < 4064 → IsTrue (is_record r)
+        → PutsBytes revision (record_bytes r) before after file grown → RecordAt revision grown after (address_of before.number (length before.bytes)) r }
+    ensures behind { (revision : ℕ) (bytes : List ℕ) (before after : OpenBlock) (file grown : List Block) → before.number ≡ length file → length before.bytes < 4064
+        → PutsBytes revision bytes before after file grown → (after.number ≡ length grown) × (length after.bytes < 4064) }
+{}
+
+/// A record that stands at an address stays there when bytes are put.
+pub fn puts_keep_records()
+    ensures { (revision : ℕ) (bytes : List ℕ) (before after : OpenBlock) (file grown : List Block) (address : ℕ) (r : Rec) → before.number ≡ length file
+        → length before.bytes < 4064 → length after.bytes < 4064 → PutsBytes revision bytes before after file grown → RecordAt revision file before address r → RecordAt revision grown after address r }
+{}
+
+/// Nor does it go when the open block is padded out.
+pub fn pads_keep_records()
+    ensures { (revision : ℕ) (before : OpenBlock) (file : List Block) (block : Block) (address : ℕ) (r : Rec) → before.number ≡ length file → IsSealed revision before.number 1 before.bytes block
+        → RecordAt revision file before address r → RecordAt revision (file ++ block ∷ []) (record { number = before.number + 1; bytes = [] }) address r }
+{}
+
+/// Nor when blocks are appended where nothing is open, wherever behind them the next one is opened.
+pub fn blocks_keep_records()
+    ensures { (revision : ℕ) (before after : OpenBlock) (file more : List Block) (address : ℕ) (r : Rec) → before.number ≡ length file → before.bytes ≡ [] → length file ≤ after.number
+        → RecordAt revision file before address r → RecordAt revision (file ++ more) after address r }
+{}
