@@ -34,6 +34,18 @@ pub(crate) fn has_id(rows: &[Row], id: u64) -> bool
     false
 }
 
+// The sequence number and the count of documents of the store of an id.
+pub(crate) fn numbers_of(rows: &[Row], id: u64) -> Option<(u64, u64)>
+    ensures { result ≡ option_map (λ s. (s.seq, s.documents)) (row_with_id (map row_of rows.now) id) }
+{
+    for row in rows {
+        if row.id == id {
+            return Some((row.seq, row.documents));
+        }
+    }
+    None
+}
+
 fn count_each(rows: &mut [Row], id: u64, seq: u64, documents: u64)
     ensures { map row_of rows.new ≡ map (with_numbers id seq documents) (map row_of rows.old) }
 {

@@ -7,7 +7,7 @@ ghost use Rattle.kvs_names.specs.Table.{BeginsWithDefault, AreApart, AreBelow, I
 
 use crate::form::{is_name, is_worn};
 use crate::row::Row;
-use crate::rows::{Rows, count_in, from_stores, has_id, id_of, remove_from, to_stores};
+use crate::rows::{Rows, count_in, from_stores, has_id, id_of, numbers_of, remove_from, to_stores};
 use forest_model::{Refusal, Stores};
 use std::marker::Model;
 
@@ -58,6 +58,13 @@ impl Names {
         ensures { result ≡ self.now.next }
     {
         self.next
+    }
+
+    /// The sequence number of the store of an id, and how many documents it has.
+    pub fn numbers(&self, id: u64) -> Option<(u64, u64)>
+        ensures { result ≡ option_map (λ s. (s.seq, s.documents)) (row_with_id self.now.rows id) }
+    {
+        numbers_of(self.rows.as_slice(), id)
     }
 
     /// Gives a store, which is there, a new sequence number and a new count of documents.

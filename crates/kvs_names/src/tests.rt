@@ -47,6 +47,9 @@ fn stores_are_counted_and_removed(rt: HostRuntime) -> Result<(), Fail> {
     let mut names = first_names();
     names.count(0, 7, 3);
     assert_eq!(rt; open(&mut names, b"notes"), Ok(1));
+    assert_eq!(rt; names.numbers(0), Some((7, 3)));
+    assert_eq!(rt; names.numbers(1), Some((0, 0)));
+    assert_eq!(rt; names.numbers(2), None);
     assert_eq!(rt; names.stores().len(), 2);
     assert_eq!(rt;
         names.stores().at(0),
