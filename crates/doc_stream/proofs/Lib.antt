@@ -1,8 +1,15 @@
-pub mod Extended
-pub mod Filled
-pub mod Fronts
-pub mod Joined
-pub mod KeptAt
-pub mod Puts
-pub mod WrittenRead
-pub mod WrittenScanned
+mod Puts
+mod Blocks
+mod Steps
+mod Loads
+mod Fills
+mod RecordBytes
+mod RangeScans
+mod AddressReads
+mod Extended
+mod Filled
+mod Fronts
+mod Joined
+mod KeptAt
+mod WrittenRead
+mod WrittenScanned

@@ -5,4 +5,8 @@ pub mod Runs
 pub mod Fold
 pub mod Reading
 pub mod Causes
+pub mod Steps
+pub mod Heads
+pub mod Sources
+pub mod Scans
 pub mod Writing

@@ -1,10 +1,16 @@
 //! Records in the record blocks of a file (`docs/FORMAT.md`, records).
 //!
-//! So far it has the open block, into which records are put: whole blocks go out of it as they fill. It promises that the
-//! bytes that went out and those that stay are exactly the records put, one behind another.
+//! The open block takes records, and whole blocks go out of it as they fill. It promises that the bytes that went out and
+//! those that stay are exactly the records put, one behind another.
+//!
+//! `scan` gives all records of a range of blocks with their addresses, and `read` the one at an address, in the file or in
+//! the open block. They promise the very records that the blocks hold, and else a refusal with its cause: a fault of the
+//! view, memory, or a block by which no records stand there, whatever lies behind it. Each block is read and checked once. The laws say that what was put is what is read.
 #![tactic(auto)]
 
+mod heads;
 mod laws;
+mod reader;
 mod reading;
 mod tail;
 
@@ -12,5 +18,8 @@ pub use laws::{
     blocks_keep_records, pads_keep_records, put_stands, puts_keep_records, written_is_read,
     written_is_scanned,
 };
-pub use reading::read;
+pub use reading::{read, scan};
 pub use tail::Tail;
+
+#[cfg(test)]
+mod tests;

@@ -1,13 +1,79 @@
-ghost use Rattle.std.specs.Prelude.{◌≡◌, ◌⊎◌, ◌≤◌, ◌-◌, ◌^◌, ℕ, List, IsTrue, IfOk, IfErr, OnOk, Ok, Err};
+ghost use Rattle.std.specs.Prelude.{◌≡◌, ◌⊎◌, ◌≤◌, ◌<◌, ◌-◌, ◌/◌, ◌^◌, ◌++◌, ℕ, List, length, Some, None, IsTrue, IfOk, IfErr, OnOk, Ok, Err};
 ghost use Rattle.forest_model.specs.declared.refusal.Refusal.TheVariants as Refusal;
 ghost use Rattle.forest_model.specs.declared.stored.Rec.{Rec};
-ghost use Rattle.doc_stream.specs.Causes.{BreaksRecord, Reason};
+ghost use Rattle.doc_stream.specs.Causes.{BreaksRecord, BreaksRecords, Reason};
 ghost use Rattle.doc_stream.specs.Reading.{RecordAt};
+ghost use Rattle.doc_stream.specs.Runs.{RecordsOf};
+ghost use Rattle.doc_stream.specs.Scans.{BreaksRest, Scans, StartsFrom, still};
+ghost use Rattle.doc_stream.specs.Sources.{asked_of};
 
 use crate::Tail;
+use crate::reader::{Reader, Source};
 use block_host::View;
-use forest_model::{Rec, Refusal};
+use forest_model::{Rec, Recs, Refusal};
 use std::alloc::Global;
+
+/// The records in the record blocks of a file's revision from block `from` up to, not including, `to`, in order, each with
+/// its address. Blocks of other kinds are passed over. Each block is read once.
+pub fn scan<V: View>(
+    alloc: Global,
+    view: &mut V,
+    rev: u64,
+    from: u64,
+    to: u64,
+) -> Result<Recs, Refusal>
+    requires { to ≤ 2 ^ 41 }
+    ensures records { IsTrue V.tells → IfOk result (λ records. RecordsOf rev (V.content view.old) from (to - from) records) }
+    ensures exact { IsTrue V.tells → (records : List (ℕ × Rec)) → RecordsOf rev (V.content view.old) from (to - from) records → (result ≡ Ok records) ⊎ (result ≡ Err Refusal.NoMemory) ⊎ (result ≡ Err Refusal.DiskFault) }
+    ensures reason { IfErr result (Reason V.tells rev (BreaksRecords rev (V.content view.old) from (to - from)) (V.faults view.old) (V.faults view.new)) }
+    ensures content { IsTrue V.tells → V.content view.new ≡ V.content view.old }
+    ensures counts { V.faults view.old ≤ V.faults view.new }
+    ensures untroubled { OnOk result (V.faults view.new ≡ V.faults view.old) }
+{
+    let source = Source {
+        revision: rev,
+        tail: None,
+        end: to,
+    };
+    let mut reader = Reader::new(from);
+    let mut records = Recs::new(alloc);
+    while reader.next() < to || reader.has_bytes() {
+        step(alloc, view, &source, &mut reader, &mut records)?;
+    }
+    Ok(records)
+}
+
+// Puts the next record of a range behind the others; where the block in hand has no bytes left, goes on to the next one.
+fn step<V: View>(
+    alloc: Global,
+    view: &mut V,
+    source: &Source,
+    reader: &mut Reader,
+    records: &mut Recs,
+) -> Result<(), Refusal>
+    requires range { (asked_of source.now).tail ≡ None }
+    requires end { source.now.end ≤ 2 ^ 41 }
+    requires some { (reader.old.next < source.now.end) ⊎ (1 ≤ length reader.old.bytes) }
+    requires ready { 1 ≤ length reader.old.bytes → (1 ≤ reader.old.next) × (reader.old.next ≤ source.now.end) }
+    ensures ready { OnOk result (1 ≤ length reader.new.bytes → reader.new.next ≤ source.now.end) }
+    ensures advanced { OnOk result (1 ≤ length reader.new.bytes → (reader.old.next < reader.new.next) ⊎ (1 ≤ length reader.old.bytes)) }
+    ensures later { OnOk result (reader.old.next ≤ reader.new.next) }
+    ensures less { OnOk result (still source.now.end reader.new < still source.now.end reader.old) }
+    ensures scanned { IsTrue V.tells → OnOk result ((done : List (ℕ × Rec)) × (records.new ≡ records.old ++ done) × Scans (asked_of source.now) (V.content view.old) reader.old reader.new done) }
+    ensures reason { IfErr result (Reason V.tells source.now.revision (BreaksRest (asked_of source.now) (V.content view.old) reader.old) (V.faults view.old) (V.faults view.new)) }
+    ensures content { IsTrue V.tells → V.content view.new ≡ V.content view.old }
+    ensures counts { V.faults view.old ≤ V.faults view.new }
+    ensures untroubled { OnOk result (V.faults view.new ≡ V.faults view.old) }
+{
+    if !reader.has_bytes() {
+        reader.load(view, source)?;
+        return Ok(());
+    }
+    let address = reader.address();
+    let record = reader.record(alloc, view, source)?;
+    records.push((address, record))?;
+    Ok(())
+}
 
 /// The record at an address of a file's revision, which may lie in whole or in part in the open block.
 pub fn read<V: View>(
@@ -24,6 +90,41 @@ pub fn read<V: View>(
     ensures counts { V.faults view.old ≤ V.faults view.new }
     ensures untroubled { OnOk result (V.faults view.new ≡ V.faults view.old) }
 {
-    let _unused = (alloc, rev, address, view.size(), tail.number());
-    Err(Refusal::NoMemory)
+    let source = Source {
+        revision: rev,
+        tail: Some(tail),
+        end: 0,
+    };
+    let mut reader = Reader::new(address / 4096);
+    go_to(view, &source, tail, address, &mut reader)?;
+    let record = reader.record(alloc, view, &source)?;
+    Ok(record)
+}
+
+// Sets a reader that stands before the block of an address on that address.
+fn go_to<V: View>(
+    view: &mut V,
+    source: &Source,
+    tail: &Tail,
+    address: u64,
+    reader: &mut Reader,
+) -> Result<(), Refusal>
+    requires open_block { (asked_of source.now).tail ≡ Some tail.now }
+    requires at { reader.old.next ≡ address / 4096 }
+    ensures next { OnOk result ((1 ≤ reader.new.next) × (reader.new.next ≤ 2 ^ 52)) }
+    ensures starts { IsTrue V.tells → OnOk result (StartsFrom (asked_of source.now) (V.content view.old) tail.now address reader.new) }
+    ensures reason { IfErr result (Reason V.tells source.now.revision (BreaksRecord source.now.revision (V.content view.old) tail.now address) (V.faults view.old) (V.faults view.new)) }
+    ensures content { IsTrue V.tells → V.content view.new ≡ V.content view.old }
+    ensures counts { V.faults view.old ≤ V.faults view.new }
+    ensures untroubled { OnOk result (V.faults view.new ≡ V.faults view.old) }
+{
+    if !reader.load(view, source)? {
+        return Err(reader.damaged(source));
+    }
+    let offset = (address % 4096) as usize;
+    if reader.left() <= offset {
+        return Err(reader.damaged(source));
+    }
+    reader.skip(offset);
+    Ok(())
 }

@@ -1,4 +1,4 @@
-ghost use Rattle.std.specs.Prelude.{◌≡◌, ◌≢◌, ◌+◌, ◌*◌, ◌/◌, ◌^◌, ◌<◌, ◌≤◌, ℕ, List, [], ◌++◌, length, IsTrue, IfOk, OnOk, OnErr, MatchOption, vec_len, vec_capacity};
+ghost use Rattle.std.specs.Prelude.{◌≡◌, ◌≢◌, ◌+◌, ◌*◌, ◌/◌, ◌^◌, ◌<◌, ◌≤◌, ℕ, List, [], ◌++◌, length, IsTrue, IfOk, OnOk, OnErr, MatchOption, take, vec_len, vec_capacity};
 ghost use Rattle.block_host.specs.Sealed.{IsSealed};
 ghost use Rattle.doc_stream.specs.OpenBlock.{PutsBytes, address_of};
 ghost use Rattle.doc_stream.specs.Records.{is_record, head_bytes, record_bytes};
@@ -75,6 +75,16 @@ impl Tail {
         ensures { result ≡ self.now.number }
     {
         self.number
+    }
+
+    // Puts the bytes at the front of a block, and answers how many they are.
+    pub(crate) fn copy_bytes(&self, block: &mut Block) -> usize
+        ensures bytes { take result block.new.bytes ≡ self.now.bytes }
+        ensures fits { result < 4064 }
+    {
+        let bytes = self.bytes.as_slice();
+        block.bytes[..bytes.len()].copy_from_slice(bytes);
+        bytes.len()
     }
 
     /// The address of the next record.

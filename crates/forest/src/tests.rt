@@ -11,40 +11,150 @@ const SCRIPT: &[u8] =
 const REPLIES: &[u8] =
     b"0 1 ok 1\n0 1 found 1 red\n0 2 commit 1\n0 2 commit 1\n0 3 ok 2\n0 4 commit 2\n0 4 found 2 green\n0 4 refused not-found\n0 5 ok 3\n0 5 found 3 ripe\n0 6 commit 3\n0 6 found 2 green\n";
 
-// What is wanted where the host's call of each number fails, from the first on: how many replies are said, and how many
-// blocks file 1 has. The host is asked five times for the files of a new store; then each line says its reply, and a commit
-// with something new first appends the open block, syncs, appends the header and syncs. No call of the last number is made.
-const WANTED: [(usize, u64); 30] = [
-    (0, 1),
-    (0, 1),
-    (0, 1),
-    (0, 1),
-    (0, 1),
-    (0, 1),
-    (1, 1),
-    (2, 1),
-    (2, 2),
-    (2, 2),
-    (2, 3),
-    (2, 3),
-    (3, 3),
-    (4, 3),
-    (5, 3),
-    (5, 4),
-    (5, 4),
-    (5, 5),
-    (5, 5),
-    (6, 5),
-    (7, 5),
-    (8, 5),
-    (9, 5),
-    (10, 5),
-    (10, 6),
-    (10, 6),
-    (10, 7),
-    (10, 7),
-    (11, 7),
-    (12, 7),
+// The meta file's blocks, as `bench/usual_file` makes them from the format alone: of each the payload and the last 32 bytes.
+const META: [(&[u8], &[u8]); 2] = [
+    (
+        b"\0\0\0\0\0\0\0\x01\0\0\0\0\0\0\0\x01",
+        b"\
+            \x05\x01\0\x10\0\0\0\0\0\0\0\0\0\0\0\0\0\0\0\0\0\0\0\0\
+            \x36\x9b\x83\xde\x82\x76\xae\xbc",
+    ),
+    (
+        b"",
+        b"\0\0\0\0\0\0\0\0\0\0\0\0\0\0\0\0\0\0\0\0\0\0\0\0\0\0\0\0\0\0\0\0",
+    ),
+];
+
+// Those of file 1 after the script. Each commit adds a block of records and its header.
+const FILE: [(&[u8], &[u8]); 7] = [
+    (
+        b"\
+            \0\0\0\0\0\0\0\0\0\0\0\0\0\0\0\x01\0\0\0\0\0\0\0\0\
+            \0\0\0\0\0\0\0\0\0\0\0\0\0\0\0\0\
+            \0\0\0\0\0\0\0\x01\0\0\0\0\0\0\0\0\
+            \0\0\0\0\0\0\0\x01\0\0\0\0\0\0\0\x01\
+            \0\0\0\0\0\0\0\0\x07default\0\0\0\0\0\0\0\0\0\0\0\0\0\0\0\0\0\0\0\0\0\0\0\0\
+            \0\0\0\0\0\0\0\0\0\0\0\0\0\0\0\0",
+        b"\
+            \x04\x01\0\x80\0\0\0\0\0\0\0\0\0\0\0\x01\0\0\0\0\0\0\0\0\
+            \xa5\x2b\x48\x2d\x64\xbe\xba\x84",
+    ),
+    (
+        b"\
+            \x01\0\0\x05\0\0\0\x03\0\0\0\0\0\0\0\0\0\0\0\0\0\0\0\x01\
+            applered",
+        b"\
+            \x01\x01\0\x20\0\0\0\0\0\0\0\0\0\0\0\x01\0\0\0\0\0\0\0\x01\
+            \x47\x8b\x77\xc8\xba\x85\xbd\x39",
+    ),
+    (
+        b"\
+            \0\0\0\0\0\0\0\x01\0\0\0\0\0\0\0\x02\0\0\0\0\0\0\0\x01\
+            \0\0\0\0\0\0\0\0\0\0\0\0\0\0\0\0\
+            \0\0\0\0\0\0\0\x01\0\0\0\0\0\0\0\x20\
+            \0\0\0\0\0\0\0\x01\0\0\0\0\0\0\0\x01\
+            \0\0\0\0\0\0\0\0\x07default\0\0\0\0\0\0\0\0\0\0\0\0\0\0\0\0\0\0\0\0\0\0\0\0\
+            \0\0\0\0\0\0\0\x01\0\0\0\0\0\0\0\x01",
+        b"\
+            \x04\x01\0\x80\0\0\0\0\0\0\0\0\0\0\0\x01\0\0\0\0\0\0\0\x02\
+            \x98\x65\xc6\xc6\x88\x21\x93\x60",
+    ),
+    (
+        b"\
+            \x01\0\0\x05\0\0\0\x05\0\0\0\0\0\0\0\0\0\0\0\0\0\0\0\x02\
+            applegreen",
+        b"\
+            \x01\x01\0\x22\0\0\0\0\0\0\0\0\0\0\0\x01\0\0\0\0\0\0\0\x03\
+            \x24\x4e\x4a\x9c\x76\x02\xbf\x5d",
+    ),
+    (
+        b"\
+            \0\0\0\0\0\0\0\x02\0\0\0\0\0\0\0\x03\0\0\0\0\0\0\0\x03\
+            \0\0\0\0\0\0\0\0\0\0\0\0\0\0\0\0\
+            \0\0\0\0\0\0\0\x01\0\0\0\0\0\0\0\x22\
+            \0\0\0\0\0\0\0\x01\0\0\0\0\0\0\0\x01\
+            \0\0\0\0\0\0\0\0\x07default\0\0\0\0\0\0\0\0\0\0\0\0\0\0\0\0\0\0\0\0\0\0\0\0\
+            \0\0\0\0\0\0\0\x02\0\0\0\0\0\0\0\x01",
+        b"\
+            \x04\x01\0\x80\0\0\0\0\0\0\0\0\0\0\0\x01\0\0\0\0\0\0\0\x04\
+            \xf0\x99\x4d\x76\x74\x47\x9b\x1e",
+    ),
+    (
+        b"\
+            \x01\0\0\x04\0\0\0\x04\0\0\0\0\0\0\0\0\0\0\0\0\0\0\0\x03\
+            pearripe",
+        b"\
+            \x01\x01\0\x20\0\0\0\0\0\0\0\0\0\0\0\x01\0\0\0\0\0\0\0\x05\
+            \xe7\x51\x5a\x97\x87\x98\xe7\xa8",
+    ),
+    (
+        b"\
+            \0\0\0\0\0\0\0\x03\0\0\0\0\0\0\0\x04\0\0\0\0\0\0\0\x05\
+            \0\0\0\0\0\0\0\0\0\0\0\0\0\0\0\0\
+            \0\0\0\0\0\0\0\x01\0\0\0\0\0\0\0\x42\
+            \0\0\0\0\0\0\0\x01\0\0\0\0\0\0\0\x01\
+            \0\0\0\0\0\0\0\0\x07default\0\0\0\0\0\0\0\0\0\0\0\0\0\0\0\0\0\0\0\0\0\0\0\0\
+            \0\0\0\0\0\0\0\x03\0\0\0\0\0\0\0\x02",
+        b"\
+            \x04\x01\0\x80\0\0\0\0\0\0\0\0\0\0\0\x01\0\0\0\0\0\0\0\x06\
+            \xb4\xae\xff\x55\xc4\xa9\x08\xce",
+    ),
+];
+
+// In each row the host's call of the first number fails, or the source's read of the second, each counted from 1; 0 is
+// none. Wanted are the status, how many replies are said, and how many blocks of `FILE` are left.
+//
+// The host is asked five times for the files of a new store. Then each line says its reply, and a commit with something
+// new first appends its records, syncs, appends its header and syncs. The source gives the script's 144 bytes in 15 reads
+// of ten bytes at most, and one more finds its end; all lines that are whole by then were run. In the last row neither
+// number is reached.
+const FAULTS: [(u64, u64, u8, usize, usize); 46] = [
+    (1, 0, 4, 0, 1),
+    (2, 0, 4, 0, 1),
+    (3, 0, 4, 0, 1),
+    (4, 0, 4, 0, 1),
+    (5, 0, 4, 0, 1),
+    (6, 0, 4, 0, 1),
+    (7, 0, 4, 1, 1),
+    (8, 0, 4, 2, 1),
+    (9, 0, 4, 2, 2),
+    (10, 0, 4, 2, 2),
+    (11, 0, 4, 2, 3),
+    (12, 0, 4, 2, 3),
+    (13, 0, 4, 3, 3),
+    (14, 0, 4, 4, 3),
+    (15, 0, 4, 5, 3),
+    (16, 0, 4, 5, 4),
+    (17, 0, 4, 5, 4),
+    (18, 0, 4, 5, 5),
+    (19, 0, 4, 5, 5),
+    (20, 0, 4, 6, 5),
+    (21, 0, 4, 7, 5),
+    (22, 0, 4, 8, 5),
+    (23, 0, 4, 9, 5),
+    (24, 0, 4, 10, 5),
+    (25, 0, 4, 10, 6),
+    (26, 0, 4, 10, 6),
+    (27, 0, 4, 10, 7),
+    (28, 0, 4, 10, 7),
+    (29, 0, 4, 11, 7),
+    (0, 1, 2, 0, 1),
+    (0, 2, 2, 0, 1),
+    (0, 3, 2, 1, 1),
+    (0, 4, 2, 2, 1),
+    (0, 5, 2, 3, 3),
+    (0, 6, 2, 4, 3),
+    (0, 7, 2, 4, 3),
+    (0, 8, 2, 5, 3),
+    (0, 9, 2, 6, 5),
+    (0, 10, 2, 7, 5),
+    (0, 11, 2, 8, 5),
+    (0, 12, 2, 8, 5),
+    (0, 13, 2, 9, 5),
+    (0, 14, 2, 10, 5),
+    (0, 15, 2, 11, 7),
+    (0, 16, 2, 12, 7),
+    (30, 17, 0, 12, 7),
 ];
 
 fn run(
@@ -57,6 +167,14 @@ fn run(
         String::from_str(alloc, "--memory")?,
     ]?;
     Ok(play(alloc, words.as_slice(), source, host))
+}
+
+fn run_with_faults(alloc: Global, call: u64, read: u64) -> Result<Played<MemoryHost>, AllocError> {
+    let mut host = MemoryHost::formatted(alloc)?;
+    host.fail_calls(&[call], &[], &[])?;
+    let mut source = MemorySource::new(SCRIPT.to_vec(alloc)?).with_step(10);
+    source.fail_read(read);
+    run(alloc, &mut source, host)
 }
 
 // The first of these lines, so many.
@@ -75,79 +193,60 @@ fn first_lines(text: &[u8], count: usize) -> &[u8] {
     text.get(..end).unwrap_or_default()
 }
 
-// How many lines these bytes end.
-fn lines_in(bytes: &[u8]) -> usize {
-    bytes.iter().filter(|byte| **byte == b'\n').count()
-}
-
-fn has_blocks(host: &MemoryHost, count: u64) -> bool {
-    host.block(1, count.saturating_sub(1)).is_some() && host.block(1, count).is_none()
-}
-
-fn host_fails_at(
-    rt: &impl Abort,
-    alloc: Global,
-    number: u64,
-    replies: usize,
-    blocks: u64,
-) -> Result<(), AllocError> {
-    let mut host = MemoryHost::formatted(alloc)?;
-    host.fail_calls(&[number], &[], &[])?;
-    let mut source = MemorySource::new(SCRIPT.to_vec(alloc)?);
-    let played = run(alloc, &mut source, host)?;
-    let status = if replies == 12 { 0 } else { 4 };
-    assert_eq!(rt; played.status, status, "at call {number}");
-    assert_eq!(rt;
-        played.host.said(),
-        first_lines(REPLIES, replies),
-        "at call {number}"
-    );
-    assert!(rt; has_blocks(&played.host, blocks), "at call {number}");
-    Ok(())
-}
-
-#[test]
-fn each_call_of_the_host_fails(rt: HostRuntime) -> Result<(), Fail> {
-    let mut number: u64 = 0;
-    for (replies, blocks) in WANTED {
-        number = number.saturating_add(1);
-        host_fails_at(&rt, rt.alloc(), number, replies, blocks)?;
+// So many replies, and the source's fault where the status tells it.
+fn wanted_said(alloc: Global, replies: usize, status: u8) -> Result<Vec<u8>, AllocError> {
+    let mut said = first_lines(REPLIES, replies).to_vec(alloc)?;
+    if status == 2 {
+        said.extend_from_slice(b"source fault\n")?;
     }
-    Ok(())
+    Ok(said)
 }
 
-// A source gives ten bytes in a read, and fails at the read of a number: all lines that are whole by then were run.
-fn source_fails_at(rt: &impl Abort, alloc: Global, number: u64) -> Result<(), AllocError> {
-    let mut source = MemorySource::new(SCRIPT.to_vec(alloc)?).with_step(10);
-    source.fail_read(number);
-    let played = run(alloc, &mut source, MemoryHost::formatted(alloc)?)?;
-    let taken = (number as usize).saturating_sub(1).saturating_mul(10);
-    let lines = lines_in(SCRIPT.get(..taken).unwrap_or(SCRIPT));
-    let mut said = first_lines(REPLIES, lines).to_vec(alloc)?;
-    said.extend_from_slice(b"source fault\n")?;
-    assert_eq!(rt; played.status, 2, "at read {number}");
-    assert_eq!(rt; played.host.said(), said.as_slice(), "at read {number}");
-    let commits = if lines < 3 {
-        0
-    } else if lines < 6 {
-        1
-    } else if lines < 11 {
-        2
-    } else {
-        3
+// A block has this payload, zeros behind it, and these last 32 bytes.
+fn is_block(host: &MemoryHost, file: u64, at: u64, payload: &[u8], last: &[u8]) -> bool {
+    let Some(block) = host.block(file, at) else {
+        return false;
     };
-    assert!(rt;
-        has_blocks(&played.host, 1 + 2 * commits),
-        "at read {number}"
-    );
-    Ok(())
+    let behind = block.bytes.get(payload.len()..4064).unwrap_or_default();
+    block.bytes.get(..payload.len()) == Some(payload)
+        && behind.iter().all(|byte| *byte == 0)
+        && block.bytes.get(4064..) == Some(last)
+}
+
+// A file has these blocks and no others.
+fn is_file(host: &MemoryHost, file: u64, blocks: &[(&[u8], &[u8])]) -> bool {
+    let mut at: u64 = 0;
+    for (payload, last) in blocks {
+        if !is_block(host, file, at, payload, last) {
+            return false;
+        }
+        at = at.saturating_add(1);
+    }
+    host.block(file, at).is_none()
+}
+
+// The host has the meta file and the first blocks of `FILE`, so many, and no other file behind these.
+fn has_files(host: &MemoryHost, count: usize) -> bool {
+    is_file(host, 0, &META)
+        && is_file(host, 1, FILE.get(..count).unwrap_or_default())
+        && host.block(2, 0).is_none()
 }
 
 #[test]
-fn each_read_of_the_source_fails(rt: HostRuntime) -> Result<(), Fail> {
-    // the script's bytes take 15 reads, and one more finds its end
-    for number in 1..=16 {
-        source_fails_at(&rt, rt.alloc(), number)?;
+fn each_call_of_the_host_and_each_read_of_the_source_fails(rt: HostRuntime) -> Result<(), Fail> {
+    for (call, read, status, replies, blocks) in FAULTS {
+        let played = run_with_faults(rt.alloc(), call, read)?;
+        let said = wanted_said(rt.alloc(), replies, status)?;
+        assert_eq!(rt; played.status, status, "at call {call}, read {read}");
+        assert_eq!(rt;
+            played.host.said(),
+            said.as_slice(),
+            "at call {call}, read {read}"
+        );
+        assert!(rt;
+            has_files(&played.host, blocks),
+            "at call {call}, read {read}"
+        );
     }
     Ok(())
 }
@@ -164,42 +263,11 @@ fn the_first_sync_of_a_commit_fails(rt: HostRuntime) -> Result<(), Fail> {
     Ok(())
 }
 
-// A block of file 1 has this payload, zeros behind it, and these last 32 bytes.
-fn is_block(rt: &impl Abort, host: &MemoryHost, at: u64, payload: &[u8], last: &[u8]) {
-    let Some(block) = host.block(1, at) else {
-        assert!(rt; false, "no block {at}");
-        return;
-    };
-    assert_eq!(rt;
-        block.bytes.get(..payload.len()),
-        Some(payload),
-        "block {at}"
-    );
-    assert_eq!(rt; block.bytes.get(4064..), Some(last), "block {at}");
-    let behind = block.bytes.get(payload.len()..4064).unwrap_or_default();
-    assert!(rt; behind.iter().all(|byte| *byte == 0), "block {at}");
-}
-
-// The bytes that `bench/usual_file` makes from the format alone.
 #[test]
 fn the_file_of_usual_use(rt: HostRuntime) -> Result<(), Fail> {
     let alloc = rt.alloc();
     let mut source = MemorySource::new(b"0 set apple red\n0 commit\n0 get apple\n".to_vec(alloc)?);
     let played = run(alloc, &mut source, MemoryHost::formatted(alloc)?)?;
-    assert!(rt; has_blocks(&played.host, 3));
-    is_block(
-        &rt,
-        &played.host,
-        1,
-        b"\x01\0\0\x05\0\0\0\x03\0\0\0\0\0\0\0\0\0\0\0\0\0\0\0\x01applered",
-        b"\x01\x01\0\x20\0\0\0\0\0\0\0\0\0\0\0\x01\0\0\0\0\0\0\0\x01\x47\x8b\x77\xc8\xba\x85\xbd\x39",
-    );
-    is_block(
-        &rt,
-        &played.host,
-        2,
-        b"\0\0\0\0\0\0\0\x01\0\0\0\0\0\0\0\x02\0\0\0\0\0\0\0\x01\0\0\0\0\0\0\0\0\0\0\0\0\0\0\0\0\0\0\0\0\0\0\0\x01\0\0\0\0\0\0\0\x20\0\0\0\0\0\0\0\x01\0\0\0\0\0\0\0\x01\0\0\0\0\0\0\0\0\x07default\0\0\0\0\0\0\0\0\0\0\0\0\0\0\0\0\0\0\0\0\0\0\0\0\0\0\0\0\0\0\0\x01\0\0\0\0\0\0\0\x01",
-        b"\x04\x01\0\x80\0\0\0\0\0\0\0\0\0\0\0\x01\0\0\0\0\0\0\0\x02\x98\x65\xc6\xc6\x88\x21\x93\x60",
-    );
+    assert!(rt; has_files(&played.host, 3));
     Ok(())
 }

@@ -1,1 +1,4 @@
 pub mod Pages
+pub mod Nodes
+pub mod Stems
+pub mod Reading

@@ -3,6 +3,7 @@ pub mod Found
 pub mod Maps
 pub mod Marks
 pub mod NextEntry
+pub mod NextNumber
 pub mod Orders
 pub mod Placed
 pub mod Sorted

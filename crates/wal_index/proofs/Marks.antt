@@ -14,7 +14,7 @@ use Rattle.std.specs.FinMap.Entries.{find-where_key, find-put, is_sorted-where_k
 use Rattle.std.specs.Ordering.{is_eq}
 use Rattle.wal_index.specs.declared.by_number.Numbered.{Numbered}
 use Rattle.wal_index.specs.Numbers.{number_cmp, numbers_at, mark_of, marks, holds, has, Agree, without_older}
-use Rattle.wal_index.specs.Index.{key_at}
+use Rattle.wal_index.specs.Index.{key_at, has_number}
 use Rattle.wal_index.proofs.Orders.{exact_numbers, numbers_total, exact_keys, keys_total}
 
 -- numbers that were filtered
@@ -33,7 +33,7 @@ marks_filter p numbers kept is = ap marks is ∙ each numbers
 number_is : (a b : Numbered) → a.store ≡ b.store → a.seq ≡ b.seq → a.key ≡ b.key → a ≡ b
 number_is a b s n k = ap (λ (x : ℕ). numbers_at x a.seq a.key) s ∙ ap (λ (x : ℕ). numbers_at b.store x a.key) n ∙ ap (numbers_at b.store b.seq) k
 
-same_number : (a b : Numbered) → is_eq (number_cmp a b) ≡ true → a ≡ b
+pub same_number : (a b : Numbered) → is_eq (number_cmp a b) ≡ true → a ≡ b
 same_number a b h = exact_numbers a b ((Equal-is (number_cmp a b)).0 h)
 
 ties : (a b : Numbered) → a ≡ b → is_eq (number_cmp a b) ≡ true
@@ -136,3 +136,7 @@ marks_sorted ns ms p sorted is = subst (λ (xs : List (Numbered × Unit {0})). T
 
 pub none_agree : (es : List (DocKey × Entry)) (ns : List (Numbered × Unit {0})) → es ≡ [] → ns ≡ [] → Agree es ns
 none_agree es ns no_entry no_number n = ap (λ (xs : List (Numbered × Unit {0})). holds xs n) no_number ∙ sym (ap (λ (xs : List (DocKey × Entry)). has xs n) no_entry)
+
+-- what the numbers tell of the entries
+pub number_told : (es : List (DocKey × Entry)) (ns : List (Numbered × Unit {0})) → T (finite.is_sorted key_cmp es) → Agree es ns → (store n : ℕ) (key : List ℕ) → has_number (finite.from_sorted es) store n key ≡ holds ns (numbers_at store n key)
+number_told es ns sorted agree store n key = ap (λ (o : Option Entry). option_map_or (λ e. e.seq == n) o false) (finite.get-from_sorted key_cmp es (key_at store key) sorted) ∙ sym (agree (numbers_at store n key))

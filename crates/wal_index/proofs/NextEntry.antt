@@ -1,5 +1,5 @@
 -- The nearest entry of a store stands at the border between the keys before and behind.
-use Rattle.std.proofs.Common.{◌≡◌, ◌≢◌, ◌⊎◌, ℕ, zero, suc, ◌<◌, ◌≤◌, ◌+◌, Bool, true, false, ◌&&◌, ◌||◌, List, [], ◌∷◌, length, refl, sym, ap, ◌∙◌, subst, inl, inr, arith, get_or}
+use Rattle.std.proofs.Common.{◌≡◌, ◌≢◌, ◌⊎◌, ℕ, zero, suc, ◌<◌, ◌≤◌, ◌+◌, Bool, true, false, ◌&&◌, ◌||◌, List, length, refl, sym, ap, ◌∙◌, subst, inl, inr, arith, get_or}
 use Rattle.std.specs.Prelude.{Some, None, ◌==◌, not, nat_lt, slice_get, find, reverse, if◌then◌else◌}
 use Rattle.std.specs.Global.{Box}
 use Rattle.std.specs.Cmp.{nat_cmp_is}
@@ -17,12 +17,13 @@ use Rattle.forest_model.specs.declared.stored.Entry.{Entry}
 use Rattle.forest_model.specs.declared.stored.KeyEntry.{KeyEntry}
 use Rattle.wal_index.specs.Index.{is_past, nearest_of}
 use Rattle.wal_index.specs.Rows.{key_of, pair_of, pairs, AreSorted, IsBorder, of_store}
+use Rattle.wal_index.proofs.ByNumber.{same_at}
 use Rattle.wal_index.proofs.Found.{first_at, no_first, last_at, no_last}
 use Rattle.wal_index.proofs.Sorted.{rising}
 
 -- ---- stores rise with keys
 
-not_below : (a b : ℕ) (o : Ordering) → is_gt (ordering_then (nat_cmp a b) o) ≡ false → a ≤ b
+pub not_below : (a b : ℕ) (o : Ordering) → is_gt (ordering_then (nat_cmp a b) o) ≡ false → a ≤ b
 not_below a b o h =
     elim (nat_lt b a) as (λ t. nat_lt b a ≡ t → a ≤ b) [
       | true ↦ λ t. let less : b < a = ltb-true b a t in let is = nat_cmp_is a b Greater less in
@@ -47,16 +48,10 @@ stores_fall a b h = not_above a.store b.store (slice_cmp nat_cmp a.key b.key) h
 differ : (a b : ℕ) → ((a ≡ b) → ⊥) → (a == b) ≡ false
 differ a b apart = elim (a == b) as (λ t. (a == b) ≡ t → t ≡ false) [ true ↦ λ t. absurd (apart (eqb-true a b t)) | false ↦ λ t. refl ] refl
 
-le_or_gt : (n j : ℕ) → (n ≤ j) ⊎ (j < n)
+pub le_or_gt : (n j : ℕ) → (n ≤ j) ⊎ (j < n)
 le_or_gt zero j = inl (omega arith)
 le_or_gt (suc n) zero = inr (omega arith)
 le_or_gt (suc n) (suc j) = elim (le_or_gt n j) [ inl l ↦ inl (omega arith) | inr l ↦ inr (omega arith) ]
-
--- an element of a list is the same with every default
-get_or_default : {X : Type 0} (xs : List X) (j : ℕ) (d e : X) → j < length xs → get_or xs j d ≡ get_or xs j e
-get_or_default [] j d e l = absurd (omega arith)
-get_or_default (x ∷ xs) zero d e l = refl
-get_or_default (x ∷ xs) (suc j) d e l = get_or_default xs j d e (omega arith)
 
 -- ---- the two directions
 
@@ -84,81 +79,81 @@ no_and : (b : Bool) → (b && false) ≡ false
 no_and true = refl
 no_and false = refl
 
-module _ (with : Bool) (q : DocKey) (rows : List (Box KeyEntry)) (sorted : AreSorted rows) where
+module _ (with : Bool) (q : DocKey) (boxes : List (Box KeyEntry)) (sorted : AreSorted boxes) where
   fails_by_store : (up : Bool) (r : Box KeyEntry) → (r.value.store == q.store) ≡ false → ((r.value.store == q.store) && is_past with up q (key_of r)) ≡ false
   fails_by_store up r h = ap (λ b. b && is_past with up q (key_of r)) h
 
   fails_by_key : (up : Bool) (r : Box KeyEntry) → is_past with up q (key_of r) ≡ false → ((r.value.store == q.store) && is_past with up q (key_of r)) ≡ false
   fails_by_key up r h = ap (λ b. (r.value.store == q.store) && b) h ∙ no_and (r.value.store == q.store)
 
-  up_before : (n : ℕ) → IsBorder (is_past (not with) false q) rows n → (j : ℕ) (d : Box KeyEntry) → j < n → (((get_or rows j d).value.store == q.store) && is_past with true q (key_of (get_or rows j d))) ≡ false
-  up_before n border j d l = fails_by_key true (get_or rows j d) (turned with (key_cmp q (key_of (get_or rows j d))) ∙ ap not (border.before j d l))
+  up_before : (n : ℕ) → IsBorder (is_past (not with) false q) boxes n → (j : ℕ) (d : Box KeyEntry) → j < n → (((get_or boxes j d).value.store == q.store) && is_past with true q (key_of (get_or boxes j d))) ≡ false
+  up_before n border j d l = fails_by_key true (get_or boxes j d) (turned with (key_cmp q (key_of (get_or boxes j d))) ∙ ap not (border.before j d l))
 
-  up_there : (n : ℕ) → IsBorder (is_past (not with) false q) rows n → (j : ℕ) (d : Box KeyEntry) → n ≤ j → j < length rows → is_past with true q (key_of (get_or rows j d)) ≡ true
-  up_there n border j d l m = turned with (key_cmp q (key_of (get_or rows j d))) ∙ ap not (border.behind j d l m)
+  up_there : (n : ℕ) → IsBorder (is_past (not with) false q) boxes n → (j : ℕ) (d : Box KeyEntry) → n ≤ j → j < length boxes → is_past with true q (key_of (get_or boxes j d)) ≡ true
+  up_there n border j d l m = turned with (key_cmp q (key_of (get_or boxes j d))) ∙ ap not (border.behind j d l m)
 
   -- behind a row of another store all are of other stores
-  up_other : (n : ℕ) → IsBorder (is_past (not with) false q) rows n → (r : Box KeyEntry) → get_or rows n r ≡ r → (r.value.store == q.store) ≡ false → (j : ℕ) (d : Box KeyEntry) → n ≤ j → j < length rows
-      → ((get_or rows j d).value.store == q.store) ≡ false
+  up_other : (n : ℕ) → IsBorder (is_past (not with) false q) boxes n → (r : Box KeyEntry) → get_or boxes n r ≡ r → (r.value.store == q.store) ≡ false → (j : ℕ) (d : Box KeyEntry) → n ≤ j → j < length boxes
+      → ((get_or boxes j d).value.store == q.store) ≡ false
   up_other n border r is other j d l m = elim (le_cases n j l) [
     | inl less ↦
-        let here : r.value.store ≤ (get_or rows j r).value.store = stores_rise (key_of r) (key_of (get_or rows j r)) (ap is_gt (subst (λ (s : Box KeyEntry). key_cmp (key_of s) (key_of (get_or rows j r)) ≡ Less) is (rising key_cmp pair_of rows sorted n j r less m))) in
+        let here : r.value.store ≤ (get_or boxes j r).value.store = stores_rise (key_of r) (key_of (get_or boxes j r)) (ap is_gt (subst (λ (s : Box KeyEntry). key_cmp (key_of s) (key_of (get_or boxes j r)) ≡ Less) is (rising key_cmp pair_of boxes sorted n j r less m))) in
         let above : q.store ≤ r.value.store = stores_rise q (key_of r) (up_not_above with (key_cmp q (key_of r)) (subst (λ (s : Box KeyEntry). is_past with true q (key_of s) ≡ true) is (up_there n border n r (omega arith) (omega arith)))) in
         let apart : r.value.store ≢ q.store = eqb-false r.value.store q.store other in
-        ap (λ (s : Box KeyEntry). s.value.store == q.store) (get_or_default rows j d r m) ∙ differ (get_or rows j r).value.store q.store (λ same. apart (omega arith))
-    | inr e ↦ ap (λ (s : Box KeyEntry). s.value.store == q.store) (ap (λ k. get_or rows k d) (sym e) ∙ get_or_default rows n d r (subst (λ k. k < length rows) (sym e) m) ∙ is) ∙ other
+        ap (λ (s : Box KeyEntry). s.value.store == q.store) (same_at boxes j d r m) ∙ differ (get_or boxes j r).value.store q.store (λ same. apart (omega arith))
+    | inr e ↦ ap (λ (s : Box KeyEntry). s.value.store == q.store) (ap (λ k. get_or boxes k d) (sym e) ∙ same_at boxes n d r (subst (λ k. k < length boxes) (sym e) m) ∙ is) ∙ other
   ]
 
-  pub up_at : (n : ℕ) → IsBorder (is_past (not with) false q) rows n → of_store q.store (option_map pair_of (slice_get rows n)) ≡ nearest_of with true (pairs rows) q
-  up_at n border = elim (slice_get_cases rows n).1 [
+  pub up_at : (n : ℕ) → IsBorder (is_past (not with) false q) boxes n → of_store q.store (option_map pair_of (slice_get boxes n)) ≡ nearest_of with true (pairs boxes) q
+  up_at n border = elim (slice_get_cases boxes n).1 [
     | inl here ↦
         let r = here.0 in
         let p : DocKey × Entry → Bool = λ e. (e.0.store == q.store) && is_past with true q e.0 in
         let past : is_past with true q (key_of r) ≡ true = subst (λ (s : Box KeyEntry). is_past with true q (key_of s) ≡ true) here.3 (up_there n border n r (omega arith) here.1) in
         ap (λ o. of_store q.store (option_map pair_of o)) here.2
-        ∙ elim (r.value.store == q.store) as (λ b. (r.value.store == q.store) ≡ b → (if b then Some (pair_of r) else None) ≡ find p (pairs rows)) [
-          | true ↦ λ same. sym (first_at pair_of p rows n r here.1 (sym here.3) (ap (λ b. b && is_past with true q (key_of r)) same ∙ past) (up_before n border))
-          | false ↦ λ other. sym (no_first pair_of p rows (λ j d m. elim (le_or_gt n j) [
-            | inl l ↦ fails_by_store true (get_or rows j d) (up_other n border r here.3 other j d l m)
+        ∙ elim (r.value.store == q.store) as (λ b. (r.value.store == q.store) ≡ b → (if b then Some (pair_of r) else None) ≡ find p (pairs boxes)) [
+          | true ↦ λ same. sym (first_at pair_of p boxes n r here.1 (sym here.3) (ap (λ b. b && is_past with true q (key_of r)) same ∙ past) (up_before n border))
+          | false ↦ λ other. sym (no_first pair_of p boxes (λ j d m. elim (le_or_gt n j) [
+            | inl l ↦ fails_by_store true (get_or boxes j d) (up_other n border r here.3 other j d l m)
             | inr l ↦ up_before n border j d l
           ]))
         ] refl
     | inr past ↦
         let p : DocKey × Entry → Bool = λ e. (e.0.store == q.store) && is_past with true q e.0 in
-        ap (λ o. of_store q.store (option_map pair_of o)) past.1 ∙ sym (no_first pair_of p rows (λ j d m. up_before n border j d (let le : length rows ≤ n = past.0 in omega arith)))
+        ap (λ o. of_store q.store (option_map pair_of o)) past.1 ∙ sym (no_first pair_of p boxes (λ j d m. up_before n border j d (let le : length boxes ≤ n = past.0 in omega arith)))
   ]
 
   -- before a row of another store all are of other stores
-  down_other : (n : ℕ) → n < length rows → IsBorder (is_past with false q) rows (n + 1) → (r : Box KeyEntry) → get_or rows n r ≡ r → (r.value.store == q.store) ≡ false → (j : ℕ) (d : Box KeyEntry) → j ≤ n
-      → ((get_or rows j d).value.store == q.store) ≡ false
+  down_other : (n : ℕ) → n < length boxes → IsBorder (is_past with false q) boxes (n + 1) → (r : Box KeyEntry) → get_or boxes n r ≡ r → (r.value.store == q.store) ≡ false → (j : ℕ) (d : Box KeyEntry) → j ≤ n
+      → ((get_or boxes j d).value.store == q.store) ≡ false
   down_other n within border r is other j d l = elim (le_cases j n l) [
     | inl less ↦
-        let here : (get_or rows j r).value.store ≤ r.value.store = stores_rise (key_of (get_or rows j r)) (key_of r) (ap is_gt (subst (λ (s : Box KeyEntry). key_cmp (key_of (get_or rows j r)) (key_of s) ≡ Less) is (rising key_cmp pair_of rows sorted j n r less within))) in
+        let here : (get_or boxes j r).value.store ≤ r.value.store = stores_rise (key_of (get_or boxes j r)) (key_of r) (ap is_gt (subst (λ (s : Box KeyEntry). key_cmp (key_of (get_or boxes j r)) (key_of s) ≡ Less) is (rising key_cmp pair_of boxes sorted j n r less within))) in
         let below : r.value.store ≤ q.store = stores_fall q (key_of r) (down_not_below with (key_cmp q (key_of r)) (subst (λ (s : Box KeyEntry). is_past with false q (key_of s) ≡ true) is (border.before n r (omega arith)))) in
         let apart : r.value.store ≢ q.store = eqb-false r.value.store q.store other in
-        let m : j < length rows = omega arith in
-        ap (λ (s : Box KeyEntry). s.value.store == q.store) (get_or_default rows j d r m) ∙ differ (get_or rows j r).value.store q.store (λ same. apart (omega arith))
-    | inr e ↦ ap (λ (s : Box KeyEntry). s.value.store == q.store) (ap (λ k. get_or rows k d) e ∙ get_or_default rows n d r within ∙ is) ∙ other
+        let m : j < length boxes = omega arith in
+        ap (λ (s : Box KeyEntry). s.value.store == q.store) (same_at boxes j d r m) ∙ differ (get_or boxes j r).value.store q.store (λ same. apart (omega arith))
+    | inr e ↦ ap (λ (s : Box KeyEntry). s.value.store == q.store) (ap (λ k. get_or boxes k d) e ∙ same_at boxes n d r within ∙ is) ∙ other
   ]
 
-  pub down_at : (n : ℕ) → n < length rows → IsBorder (is_past with false q) rows (n + 1) → of_store q.store (option_map pair_of (slice_get rows n)) ≡ nearest_of with false (pairs rows) q
-  down_at n within border = elim (slice_get_cases rows n).1 [
+  pub down_at : (n : ℕ) → n < length boxes → IsBorder (is_past with false q) boxes (n + 1) → of_store q.store (option_map pair_of (slice_get boxes n)) ≡ nearest_of with false (pairs boxes) q
+  down_at n within border = elim (slice_get_cases boxes n).1 [
     | inl here ↦
         let r = here.0 in
         let p : DocKey × Entry → Bool = λ e. (e.0.store == q.store) && is_past with false q e.0 in
         let past : is_past with false q (key_of r) ≡ true = subst (λ (s : Box KeyEntry). is_past with false q (key_of s) ≡ true) here.3 (border.before n r (omega arith)) in
         ap (λ o. of_store q.store (option_map pair_of o)) here.2
-        ∙ elim (r.value.store == q.store) as (λ b. (r.value.store == q.store) ≡ b → (if b then Some (pair_of r) else None) ≡ find p (reverse (pairs rows))) [
-          | true ↦ λ same. sym (last_at pair_of p rows n r here.1 (sym here.3) (ap (λ b. b && is_past with false q (key_of r)) same ∙ past) (λ j d l m. fails_by_key false (get_or rows j d) (border.behind j d (omega arith) m)))
-          | false ↦ λ other. sym (no_last pair_of p rows (λ j d m. elim (le_or_gt (n + 1) j) [
-            | inl l ↦ fails_by_key false (get_or rows j d) (border.behind j d l m)
-            | inr l ↦ fails_by_store false (get_or rows j d) (down_other n within border r here.3 other j d (omega arith))
+        ∙ elim (r.value.store == q.store) as (λ b. (r.value.store == q.store) ≡ b → (if b then Some (pair_of r) else None) ≡ find p (reverse (pairs boxes))) [
+          | true ↦ λ same. sym (last_at pair_of p boxes n r here.1 (sym here.3) (ap (λ b. b && is_past with false q (key_of r)) same ∙ past) (λ j d l m. fails_by_key false (get_or boxes j d) (border.behind j d (omega arith) m)))
+          | false ↦ λ other. sym (no_last pair_of p boxes (λ j d m. elim (le_or_gt (n + 1) j) [
+            | inl l ↦ fails_by_key false (get_or boxes j d) (border.behind j d l m)
+            | inr l ↦ fails_by_store false (get_or boxes j d) (down_other n within border r here.3 other j d (omega arith))
           ]))
         ] refl
-    | inr past ↦ absurd (let le : length rows ≤ n = past.0 in omega arith)
+    | inr past ↦ absurd (let le : length boxes ≤ n = past.0 in omega arith)
   ]
 
-  pub down_none : IsBorder (is_past with false q) rows 0 → None ≡ nearest_of with false (pairs rows) q
+  pub down_none : IsBorder (is_past with false q) boxes 0 → None ≡ nearest_of with false (pairs boxes) q
   down_none border =
       let p : DocKey × Entry → Bool = λ e. (e.0.store == q.store) && is_past with false q e.0 in
-      sym (no_last pair_of p rows (λ j d m. fails_by_key false (get_or rows j d) (border.behind j d (omega arith) m)))
+      sym (no_last pair_of p boxes (λ j d m. fails_by_key false (get_or boxes j d) (border.behind j d (omega arith) m)))

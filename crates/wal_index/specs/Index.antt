@@ -1,5 +1,5 @@
 -- What was put since the last flush: the newest entry of each key, and the stores that are gone.
-use Rattle.std.specs.Prelude.{ℕ, ◌-◌, Bool, false, not, ◌&&◌, ◌||◌, ◌==◌, List, [], ◌∷◌, ◌++◌, map, reverse, find, Option, refl, if◌then◌else◌}
+use Rattle.std.specs.Prelude.{◌≡◌, ℕ, ◌-◌, Bool, true, false, not, ◌&&◌, ◌||◌, ◌==◌, List, [], ◌∷◌, ◌++◌, map, reverse, find, Option, refl, if◌then◌else◌, IsTrue, nat_lt, nat_le}
 use Rattle.std.specs.Option.{option_map_or}
 use Rattle.std.specs.Coded.{Coded, code_by, coded×, coded_ℕ, coded_bool, coded_list}
 use Rattle.std.specs.Ordering.{is_lt, is_gt, is_eq}
@@ -60,6 +60,16 @@ nearest_of with up es q = find (λ e. (e.0.store == q.store) && is_past with up 
 
 abbrev pub nearest : Bool → Bool → Map → DocKey → Option (DocKey × Entry)
 nearest with up m q = nearest_of with up (finite.entries m) q
+
+-- whether a search from the number q upwards, or downwards, comes to n; `with` has it come to q itself
+abbrev pub is_past_number : Bool → Bool → ℕ → ℕ → Bool
+is_past_number with up q n = (with && (q == n)) || (if up then nat_lt q n else nat_lt n q)
+
+-- the number of a newest entry of the store, and its key, that a search from seq comes to first
+pub record IsNearestNumber (with up : Bool) (m : Map) (store seq n : ℕ) (key : List ℕ) : Type 0 where
+  pub has : has_number m store n key ≡ true
+  pub past : is_past_number with up seq n ≡ true
+  pub nearest : (other : ℕ) (k : List ℕ) → has_number m store other k ≡ true → is_past_number with up seq other ≡ true → IsTrue (if up then nat_le n other else nat_le other n)
 
 -- what a look-up in order tells of an entry
 abbrev pub key_and_entry : DocKey × Entry → List ℕ × Entry

@@ -1,5 +1,5 @@
 -- Numbers of newest entries, in the order of store, number and key.
-use Rattle.std.specs.Prelude.{◌≡◌, ℕ, ◌<◌, ◌≤◌, Bool, false, List, length, slice_index_or, map, filter, T, Option, Some, None, is_some, not, ◌==◌}
+use Rattle.std.specs.Prelude.{◌≡◌, ℕ, ◌<◌, ◌≤◌, Bool, true, false, ◌&&◌, ◌||◌, List, length, slice_index_or, map, filter, T, Option, Some, None, is_some, not, ◌==◌, if◌then◌else◌, IsTrue, nat_lt, nat_le}
 use Rattle.std.specs.Global.{Box}
 use Rattle.std.specs.Option.{option_map_or}
 use Rattle.std.specs.Ordering.{nat_cmp, ordering_then, is_eq, is_gt}
@@ -11,7 +11,7 @@ use Rattle.forest_model.specs.Key.{key_cmp}
 use Rattle.forest_model.specs.declared.documents.DocKey.{DocKey}
 use Rattle.forest_model.specs.declared.stored.Entry.{Entry}
 use Rattle.wal_index.specs.declared.by_number.Numbered.{Numbered}
-use Rattle.wal_index.specs.Index.{key_at}
+use Rattle.wal_index.specs.Index.{key_at, is_past_number}
 
 -- by store, then by number, then by key
 abbrev pub number_cmp : Numbered → Numbered → Ordering
@@ -54,3 +54,26 @@ pub record IsStart (q : Numbered) (numbers : List (Box Numbered)) (n : ℕ) : Ty
   pub within : n ≤ length numbers
   pub before : (j : ℕ) (d : Box Numbered) → j < n → number_cmp q (slice_index_or numbers j d).value ≡ Greater
   pub behind : (j : ℕ) (d : Box Numbered) → n ≤ j → j < length numbers → is_gt (number_cmp q (slice_index_or numbers j d).value) ≡ false
+
+-- ---- in order
+
+-- whether n stands before the numbers of the store that a search upwards from seq comes to; `through` has seq itself stand there too
+abbrev pub stands_before : Bool → ℕ → ℕ → Numbered → Bool
+stands_before through store seq n = nat_lt n.store store || ((n.store == store) && is_past_number through false seq n.seq)
+
+-- the first n numbers stand before, and the others do not
+pub record IsNumberBorder (through : Bool) (store seq : ℕ) (numbers : List (Box Numbered)) (n : ℕ) : Type 0 where
+  pub within : n ≤ length numbers
+  pub before : (j : ℕ) (d : Box Numbered) → j < n → stands_before through store seq (slice_index_or numbers j d).value ≡ true
+  pub behind : (j : ℕ) (d : Box Numbered) → n ≤ j → j < length numbers → stands_before through store seq (slice_index_or numbers j d).value ≡ false
+
+-- n stands at a place
+pub record StandsAt (numbers : List (Box Numbered)) (at : ℕ) (n : Numbered) : Type 0 where
+  pub within : at < length numbers
+  pub here : (d : Box Numbered) → (slice_index_or numbers at d).value ≡ n
+
+-- of the numbers of the store among these, the one that a search from seq comes to first
+pub record IsNearestMark (with up : Bool) (ns : List (Numbered × Unit {0})) (store seq n : ℕ) (key : List ℕ) : Type 0 where
+  pub held : holds ns (numbers_at store n key) ≡ true
+  pub past : is_past_number with up seq n ≡ true
+  pub nearest : (other : ℕ) (k : List ℕ) → holds ns (numbers_at store other k) ≡ true → is_past_number with up seq other ≡ true → IsTrue (if up then nat_le n other else nat_le other n)

@@ -2,13 +2,14 @@ ghost use Rattle.std.specs.Prelude.{◌≡◌, ℕ, List, ◌≤◌, ◌<◌, []
 ghost use Rattle.std.specs.Option.{option_map};
 ghost use Rattle.std.specs.FinMap as finite;
 ghost use Rattle.forest_model.specs.declared.refusal.Refusal.TheVariants as Refusal;
-ghost use Rattle.wal_index.specs.Index.{Index, entry_at, has_number, key_at, key_and_entry, nearest, nothing, with_entry, without_store, in_order};
+ghost use Rattle.wal_index.specs.Index.{Index, IsNearestNumber, entry_at, has_number, is_past_number, key_at, key_and_entry, nearest, nothing, with_entry, without_store, in_order};
 
 use crate::both::put_both;
 use crate::by_key::{Rows, get, remove_store};
 use crate::by_number::{Numbers, remove_numbers_of};
 use crate::copies::{list_of, numbers_of, rows_of};
 use crate::nearest::{next_down, next_up};
+use crate::nearest_number::next_number;
 use crate::numbered::key_of;
 use crate::room::Room;
 use forest_model::{Entries, Entry, Refusal, Sequence};
@@ -120,6 +121,15 @@ impl WalIndex {
         }
     }
 
+    /// The nearest number of a newest entry of the store above or below this one, or this one itself if `with`, and a key
+    /// that has it (the one key, where no two keys of the store share a number).
+    pub fn next_seq(&self, store: u64, seq: u64, with: bool, up: bool) -> Option<(u64, &[u8])>
+        ensures found { IfSome result (λ r. IsNearestNumber with up self.now.entries store seq r.0 r.1.now) }
+        ensures absent { IfNone result ((n : ℕ) (key : List ℕ) → has_number self.now.entries store n key ≡ true → is_past_number with up seq n ≡ false) }
+    {
+        next_number(self.numbers.as_slice(), store, seq, with, up)
+    }
+
     /// How many entries there are.
     pub fn len(&self) -> u64
         ensures { result ≡ finite.len self.now.entries }
@@ -165,8 +175,7 @@ impl WalIndex {
 
     /// An index that holds the same, without room.
     pub fn copy(&mut self) -> Result<WalIndex, Refusal>
-        ensures entries { IfOk result (λ copy. copy.entries ≡ self.old.entries) }
-        ensures gone { IfOk result (λ copy. copy.gone ≡ self.old.gone) }
+        ensures value { IfOk result (λ copy. copy ≡ record self.old { room = 0; may_go = false }) }
         ensures kept { self.new ≡ self.old }
         ensures memory { OnErr result (result ≡ Err Refusal.NoMemory) }
     {

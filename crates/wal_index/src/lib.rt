@@ -1,8 +1,8 @@
 //! The memory index: the newest entry of each key since the last flush, and the stores that are gone.
 //!
-//! It promises that it is a finite map from store and key to entry, that it answers the nearest key of a store in both
-//! directions and the key of a number, and that want of memory leaves what it holds. `put` and `gone` can't fail: `room`
-//! and `reserve_gone` take their memory before. Reading by number in order, `next_seq`, is to come.
+//! It promises that it is a finite map from store and key to entry, that it answers the nearest key and the nearest
+//! number of a store in both directions and the key of a number, and that want of memory leaves what it holds. `put` and
+//! `gone` can't fail: `room` and `reserve_gone` take their memory before.
 #![tactic(auto)]
 
 mod both;
@@ -11,6 +11,7 @@ mod by_number;
 mod copies;
 mod index;
 mod nearest;
+mod nearest_number;
 mod numbered;
 mod room;
 
@@ -19,3 +20,5 @@ pub use room::Room;
 
 #[cfg(test)]
 mod tests;
+#[cfg(test)]
+mod walk;

@@ -95,3 +95,54 @@ fn a_copy_stays(rt: HostRuntime) -> Result<(), Fail> {
     assert_eq!(rt; copy.get(0, b"b"), Some(entry(1, true)));
     Ok(())
 }
+
+// Of store 1 the numbers 3 of b, 2 of a, and 4 of ab; of store 0 and of store 2 the number 1.
+#[test]
+fn the_next_number_up(rt: HostRuntime) -> Result<(), Fail> {
+    let mut index = filled(rt.alloc())?;
+    put(&mut index, 2, b"c", entry(1, true))?;
+    assert_eq!(rt;
+        index.next_seq(1, 0, false, true),
+        Some((2, b"a".as_slice()))
+    );
+    assert_eq!(rt;
+        index.next_seq(1, 2, true, true),
+        Some((2, b"a".as_slice()))
+    );
+    assert_eq!(rt;
+        index.next_seq(1, 2, false, true),
+        Some((3, b"b".as_slice()))
+    );
+    assert_eq!(rt;
+        index.next_seq(1, 4, true, true),
+        Some((4, b"ab".as_slice()))
+    );
+    assert_eq!(rt; index.next_seq(1, 4, false, true), None);
+    assert_eq!(rt; index.next_seq(0, 1, false, true), None);
+    Ok(())
+}
+
+#[test]
+fn the_next_number_down(rt: HostRuntime) -> Result<(), Fail> {
+    let mut index = filled(rt.alloc())?;
+    put(&mut index, 2, b"c", entry(1, true))?;
+    assert_eq!(rt;
+        index.next_seq(1, u64::MAX, true, false),
+        Some((4, b"ab".as_slice()))
+    );
+    assert_eq!(rt;
+        index.next_seq(1, 3, true, false),
+        Some((3, b"b".as_slice()))
+    );
+    assert_eq!(rt;
+        index.next_seq(1, 3, false, false),
+        Some((2, b"a".as_slice()))
+    );
+    assert_eq!(rt; index.next_seq(1, 2, false, false), None);
+    assert_eq!(rt;
+        index.next_seq(2, 5, false, false),
+        Some((1, b"c".as_slice()))
+    );
+    assert_eq!(rt; index.next_seq(2, 1, false, false), None);
+    Ok(())
+}

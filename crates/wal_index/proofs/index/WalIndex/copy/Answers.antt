@@ -1,12 +1,12 @@
-use Rattle.std.proofs.Common.{◌≡◌, T, List, rules, ap, sym, ◌∙◌, subst}
+use Rattle.std.proofs.Common.{◌≡◌, ℕ, false, T, List, rules, ap, sym, ◌∙◌, subst}
 use Rattle.std.specs.FinMap as finite
 use Rattle.forest_model.specs.Key.{key_cmp}
 use Rattle.forest_model.specs.declared.documents.DocKey.{DocKey}
 use Rattle.forest_model.specs.declared.stored.Entry.{Entry}
-use Rattle.wal_index.specs.Index.{Index}
+use Rattle.wal_index.specs.Index.{Index, Map}
 use Rattle.wal_index.specs.declared.by_number.Numbered.{Numbered}
 use Rattle.wal_index.specs.Numbers.{number_cmp, marks, holds, has}
-use Rattle.wal_index.specs.Rows.{held}
+use Rattle.wal_index.specs.Rows.{held, pairs}
 use Rattle.wal_index.proofs.Maps.{same_pairs}
 use Rattle.wal_index.proofs.index.WalIndex.copy.Goals as goal
 
@@ -22,7 +22,11 @@ invariant_of-result c =
       λ n. ap (λ ms. holds ms n) numbers ∙ c.self.invariant.5 n ∙ ap (λ es. has es n) (sym same),
     )
 
-pub returns-clause-entries : goal.returns-clause-entries
-returns-clause-entries c =
+pub returns-clause-value : goal.returns-clause-value
+returns-clause-value c =
     let same = same_pairs c.self.inside.rows.items c.in_ok-rows.rows.items (c.in_ok-rows.ensures.rows ∙ ap held c.as_slice.ensures.value) in
-    ap (finite.from_sorted {R = key_cmp}) same ∙ ap (λ (x : Index). x.entries) c.self.view_is
+    let with_map : Map → Index = λ m. record { entries = m; gone = c.in_ok-gone.gone.items; room = 0; may_go = false } in
+    let with_gone : List ℕ → Index = λ gone. record { entries = finite.from_sorted (pairs c.self.inside.rows.items); gone = gone; room = 0; may_go = false } in
+    ap with_map (ap (finite.from_sorted {R = key_cmp}) same)
+    ∙ ap with_gone (c.in_ok-gone.ensures.items ∙ c.as_slice-3.ensures.value)
+    ∙ ap (λ (x : Index). record x { room = 0; may_go = false }) c.self.view_is

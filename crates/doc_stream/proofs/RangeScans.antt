@@ -1,0 +1,282 @@
+-- The records of a range, one after another.
+use Rattle.std.proofs.Common.{◌≡◌, ◌≢◌, ◌⊎◌, inl, inr, ℕ, ◌+◌, ◌-◌, ◌≤◌, ◌<◌, Bool, true, false, List, [], ◌∷◌, ◌++◌, length, Option, None, IsTrue, refl, sym, ◌∙◌, ap, subst, arith, append_assoc}
+use Rattle.std.proofs.lemmas.List.{append-nil}
+use Rattle.block_host.specs.declared.block.Block.{Block}
+use Rattle.forest_model.specs.declared.stored.Rec.{Rec}
+use Rattle.doc_stream.specs.Causes.{BreaksRecords}
+use Rattle.doc_stream.specs.OpenBlock.{OpenBlock, address_of}
+use Rattle.doc_stream.specs.Records.{record_bytes, is_record}
+use Rattle.doc_stream.specs.Runs.{Piece, RecordBlocks, Spreads, AreRecords, StartsAt, RecordsOf, left}
+use Rattle.doc_stream.specs.Scans.{RestOf, Scans, BreaksRest}
+use Rattle.doc_stream.specs.Steps.{Asked, Place, in_hand, Stands, Shows, Following, IsWithin, SameBelow, Stretch, Loads, Unsealed, TakesRecord, StopsRecord}
+use Rattle.doc_stream.proofs.Blocks.{same_less, same_back, stands_other, some_or_none, kept, passed, left_left, front, pass_on, pass_back, following_on, front_back}
+use Rattle.doc_stream.proofs.Steps.{spreads_none}
+
+-- what pieces with no bytes lie between tells nothing
+pub are_same : (xs ys : List Piece) (records : List (ℕ × Rec)) → left xs ≡ left ys → AreRecords xs records → AreRecords ys records
+are_same xs ys [] same are = sym same ∙ are
+are_same xs ys ((address, r) ∷ records) same are =
+    (are.0, subst (λ (ps : List Piece). StartsAt address ps) same are.1, (are.2.0, subst (λ (ps : List Piece). Spreads (record_bytes r) ps are.2.0) same are.2.1, are.2.2))
+
+pub before_end : (a b n : ℕ) → (a < b) ⊎ (1 ≤ n) → n ≡ 0 → a < b
+before_end a b n (inl lt) none = lt
+before_end a b n (inr some) none = absurd (omega arith)
+
+pub ahead : (start old new left : ℕ) → start ≤ old → (1 ≤ left → start < old) → old ≤ new → (old < new) ⊎ (1 ≤ left) → start < new
+ahead start old new left behind ready later (inl lt) = omega arith
+ahead start old new left behind ready later (inr some) = let higher : start < old = ready some in omega arith
+
+-- a range, with no open block
+module _ (asked : Asked) (none : asked.tail ≡ None) (file : List Block) where
+  pub ranged : (other : List Block) (at : ℕ) (pieces : List Piece) → Following asked.revision asked.tail asked.end other at pieces → Following asked.revision None asked.end other at pieces
+  ranged other at pieces f = subst (λ (t : Option OpenBlock). Following asked.revision t asked.end other at pieces) none f
+
+  pub unranged : (other : List Block) (at : ℕ) (pieces : List Piece) → Following asked.revision None asked.end other at pieces → Following asked.revision asked.tail asked.end other at pieces
+  unranged other at pieces f = subst (λ (t : Option OpenBlock). Following asked.revision t asked.end other at pieces) (sym none) f
+
+  stood : (at kind : ℕ) (payload : List ℕ) → Shows asked.revision asked.tail file at kind payload → Stands asked.revision file at kind payload
+  stood at kind payload s = subst (λ (t : Option OpenBlock). Shows asked.revision t file at kind payload) none s
+
+  left_once : (other : List Block) (at : ℕ) (pieces : List Piece) → Following asked.revision None asked.end other at pieces → left pieces ≡ pieces
+  left_once other at pieces f = ap left f.2 ∙ left_left f.0 ∙ sym f.2
+
+  pub scans_none : (place : Place) → Scans asked file place place []
+  scans_none place = record {
+    later = omega arith;
+    on = λ other rest same r. r;
+    back = λ other records same r. (records, refl, r);
+  }
+
+  pub scans_both : (a b c : Place) (first second : List (ℕ × Rec)) → Scans asked file a b first → Scans asked file b c second → Scans asked file a c (first ++ second)
+  scans_both a b c first second one two =
+      let one_later = one.later in
+      let two_later = two.later in
+      record {
+        later = omega arith;
+        on = λ other rest same r.
+            subst (λ (l : List (ℕ × Rec)). RestOf asked other a l) (sym (append_assoc first second rest))
+            (one.on other (second ++ rest) (same_less b.next c.next file other two_later same) (two.on other rest same r));
+        back = λ other records same r.
+            let front = one.back other records (same_less b.next c.next file other two_later same) r in
+            let further = two.back other front.0 same front.2 in
+            (further.0, front.1 ∙ ap (λ (l : List (ℕ × Rec)). first ++ l) further.1 ∙ sym (append_assoc first second further.0), further.2);
+      }
+
+  -- a block that is passed over
+  module _ (old new : Place) (empty : old.bytes ≡ []) (next_is : new.next ≡ old.next + 1) (within : old.next < asked.end) where
+    module _ (empty_too : new.bytes ≡ []) (kind : ℕ) (payload : List ℕ) (stands : Stands asked.revision file old.next kind payload) (why : (kind ≢ 1) ⊎ ((kind ≡ 1) × (payload ≡ []))) where
+      there_in : (other : List Block) → SameBelow new.next file other → Stands asked.revision other old.next kind payload
+      there_in other same = stands_other asked.revision file other new.next old.next kind payload (omega arith) same stands
+
+      same_left : (pieces : List Piece) → left (in_hand new ∷ pieces) ≡ left (in_hand old ∷ pieces)
+      same_left pieces = passed (in_hand new) pieces empty_too ∙ sym (passed (in_hand old) pieces empty)
+
+      pub scans_past : Scans asked file old new []
+      scans_past = record {
+        later = omega arith;
+        on = λ other rest same r. record {
+          pieces = r.pieces;
+          following = unranged other old.next r.pieces (pass_on asked.revision asked.end other old.next r.pieces kind payload within (there_in other same) why
+              (subst (λ (n : ℕ). Following asked.revision None asked.end other n r.pieces) next_is (ranged other new.next r.pieces r.following)));
+          are = are_same (in_hand new ∷ r.pieces) (in_hand old ∷ r.pieces) rest (same_left r.pieces) r.are;
+        };
+        back = λ other records same r. (
+          records,
+          refl,
+          record {
+            pieces = r.pieces;
+            following = unranged other new.next r.pieces (subst (λ (n : ℕ). Following asked.revision None asked.end other n r.pieces) (sym next_is)
+                (pass_back asked.revision asked.end other old.next r.pieces kind payload within (there_in other same) why (ranged other old.next r.pieces r.following)));
+            are = are_same (in_hand old ∷ r.pieces) (in_hand new ∷ r.pieces) records (sym (same_left r.pieces)) r.are;
+          },
+        );
+      }
+
+    -- a record block with bytes
+    module _ (offset : new.offset ≡ 0) (some : 1 ≤ length new.bytes) (stands : Stands asked.revision file old.next 1 new.bytes) where
+      abbrev piece : Piece
+      piece = record { block = old.next; offset = 0; bytes = new.bytes }
+
+      hand_is : in_hand new ≡ piece
+      hand_is =
+          let make : ℕ → ℕ → Piece = λ a b. record { block = a; offset = b; bytes = new.bytes } in
+          let block : new.next - 1 ≡ old.next = omega arith in
+          ap (λ (a : ℕ). make a new.offset) block ∙ ap (λ (b : ℕ). make old.next b) offset
+
+      block_in : (other : List Block) → SameBelow new.next file other → Stands asked.revision other old.next 1 new.bytes
+      block_in other same = stands_other asked.revision file other new.next old.next 1 new.bytes (omega arith) same stands
+
+      taken_left : (pieces : List Piece) → left (in_hand new ∷ pieces) ≡ left (in_hand old ∷ piece ∷ pieces)
+      taken_left pieces = ap (λ (p : Piece). left (p ∷ pieces)) hand_is ∙ sym (passed (in_hand old) (piece ∷ pieces) empty)
+
+      load_on : (other : List Block) (rest : List (ℕ × Rec)) → SameBelow new.next file other → RestOf asked other new rest → RestOf asked other old rest
+      load_on other rest same r = record {
+        pieces = piece ∷ r.pieces;
+        following = unranged other old.next (piece ∷ r.pieces) (following_on asked.revision None asked.end other old.next new.bytes r.pieces (block_in other same) some (omega arith)
+            (subst (λ (n : ℕ). Following asked.revision None asked.end other n r.pieces) next_is (ranged other new.next r.pieces r.following)));
+        are = are_same (in_hand new ∷ r.pieces) (in_hand old ∷ piece ∷ r.pieces) rest (taken_left r.pieces) r.are;
+      }
+
+      load_back : (other : List Block) (records : List (ℕ × Rec)) → SameBelow new.next file other → RestOf asked other old records → RestOf asked other new records
+      load_back other records same r =
+          let front = front_back asked.revision asked.end other old.next new.bytes r.pieces (block_in other same) some within (ranged other old.next r.pieces r.following) in
+          record {
+            pieces = front.0;
+            following = unranged other new.next front.0 (subst (λ (n : ℕ). Following asked.revision None asked.end other n front.0) (sym next_is) front.2);
+            are = are_same (in_hand old ∷ r.pieces) (in_hand new ∷ front.0) records (ap (λ (ps : List Piece). left (in_hand old ∷ ps)) front.1 ∙ sym (taken_left front.0)) r.are;
+          }
+
+      pub scans_into : Scans asked file old new []
+      scans_into = record { later = omega arith; on = load_on; back = λ other records same r. (records, refl, load_back other records same r) }
+
+    loaded : (test : Bool) → Loads asked file old.next new test → (new.bytes ≡ []) ⊎ (1 ≤ length new.bytes) → Scans asked file old new []
+    loaded true loads (inl none_left) = scans_past none_left 1 new.bytes (stood old.next 1 new.bytes loads.1) (inr (refl, none_left))
+    loaded true loads (inr some) = scans_into loads.0 some (stood old.next 1 new.bytes loads.1)
+    loaded false loads any = let other = loads.1 in scans_past loads.0 other.0 other.1 (stood old.next other.0 other.1 other.3) (inl other.2)
+
+    pub scans_loaded : (test : Bool) → Loads asked file old.next new test → Scans asked file old new []
+    scans_loaded test loads = loaded test loads (some_or_none new.bytes)
+
+  -- the next block isn't sealed
+  pub breaks_unsealed : (place : Place) → place.next < asked.end → Unsealed asked file place.next → BreaksRest asked file place place.next
+  breaks_unsealed place within unsealed = record {
+    reached = inr (omega arith);
+    behind = omega arith;
+    within = omega arith;
+    broken = λ other records same r.
+        let here = front asked.revision asked.end other place.next r.pieces (ranged other place.next r.pieces r.following) within in
+        let stands = stands_other asked.revision other file (place.next + 1) place.next here.0 here.1 (omega arith) (same_back (place.next + 1) file other same) here.2.stands in
+        unsealed here.0 here.1 (subst (λ (t : Option OpenBlock). Shows asked.revision t file place.next here.0 here.1) (sym none) stands);
+  }
+
+  -- a record
+  module _ (old : Place) (some : 1 ≤ length old.bytes) where
+    hand_left : (other : List Block) (pieces : List Piece) → Following asked.revision asked.tail asked.end other old.next pieces → left (in_hand old ∷ pieces) ≡ in_hand old ∷ pieces
+    hand_left other pieces f = kept (in_hand old) pieces some ∙ ap (λ (ps : List Piece). in_hand old ∷ ps) (left_once other old.next pieces (ranged other old.next pieces f))
+
+    stretched : (other : List Block) (records : List (ℕ × Rec)) → RestOf asked other old records
+        → (r : Rec) × (rest : List (ℕ × Rec)) × (behind : List Piece) × (records ≡ (address_of (old.next - 1) old.offset, r) ∷ rest) × IsTrue (is_record r) × Stretch asked other old (record_bytes r) behind × AreRecords behind rest
+    stretched other [] s =
+        let empty : ◌≡◌ {A = List Piece} (in_hand old ∷ s.pieces) [] = sym (hand_left other s.pieces s.following) ∙ s.are in
+        absurd cc
+    stretched other ((address, r) ∷ rest) s =
+        let all = hand_left other s.pieces s.following in
+        let starts : address ≡ address_of (old.next - 1) old.offset = subst (λ (ps : List Piece). StartsAt address ps) all s.are.1 in (
+          r,
+          rest,
+          s.are.2.0,
+          ap (λ (a : ℕ). (a, r) ∷ rest) starts,
+          s.are.0,
+          record { pieces = s.pieces; following = s.following; spreads = subst (λ (ps : List Piece). Spreads (record_bytes r) ps s.are.2.0) all s.are.2.1 },
+          s.are.2.2,
+        )
+
+    none_behind : (p : Piece) (pieces behind : List Piece) → Spreads [] (p ∷ pieces) behind → behind ≡ p ∷ pieces
+    none_behind p pieces behind spreads = elim spreads [
+      | inl here ↦ (let make : ℕ → List ℕ → List Piece = λ n b. record { block = p.block; offset = n; bytes = b } ∷ pieces in
+          let at : p.offset + 0 ≡ p.offset = omega arith in
+          here.2 ∙ ap (λ (n : ℕ). make n here.0) at ∙ ap (λ (b : List ℕ). make p.offset b) (sym here.1))
+      | inr further ↦ absurd (further.2 (nothing p.bytes further.0 further.1))
+    ]
+      where
+        nothing : (xs ys : List ℕ) → [] ≡ xs ++ ys → ys ≡ []
+        nothing [] ys is = sym is
+        nothing (x ∷ xs) ys is = absurd cc
+
+    pub scans_record : (new : Place) (rec : Rec) → IsTrue (is_record rec) → TakesRecord asked file old new rec → Scans asked file old new ((address_of (old.next - 1) old.offset, rec) ∷ [])
+    scans_record new rec is takes = record {
+      later = takes.later;
+      on = λ other rest same s.
+          let there = takes.on other (in_hand new ∷ s.pieces) same (record { pieces = s.pieces; following = s.following; spreads = spreads_none (in_hand new) s.pieces }) in
+          let all = hand_left other there.pieces there.following in
+          record {
+            pieces = there.pieces;
+            following = there.following;
+            are = (
+              is,
+              subst (λ (ps : List Piece). StartsAt (address_of (old.next - 1) old.offset) ps) (sym all) refl,
+              (in_hand new ∷ s.pieces, subst (λ (ps : List Piece). Spreads (record_bytes rec) ps (in_hand new ∷ s.pieces)) (sym all) there.spreads, s.are),
+            );
+          };
+      back = λ other records same s.
+          let first = stretched other records s in
+          let there = takes.back other first.0 first.2 same first.4 first.5 in
+          let behind = none_behind (in_hand new) there.1.pieces first.2 there.1.spreads in (
+            first.1,
+            first.3 ∙ ap (λ (r : Rec). (address_of (old.next - 1) old.offset, r) ∷ first.1) there.0,
+            record { pieces = there.1.pieces; following = there.1.following; are = subst (λ (ps : List Piece). AreRecords ps first.1) behind first.6 },
+          );
+    }
+
+    pub breaks_record : (block : ℕ) → StopsRecord asked file old block → BreaksRest asked file old block
+    breaks_record block stops = record {
+      reached = inl some;
+      behind = stops.reached;
+      within = subst (λ (t : Option OpenBlock). IsWithin t asked.end (block + 1)) none stops.within;
+      broken = λ other records same s.
+          let first = stretched other records s in
+          stops.broken other first.0 first.2 same first.4 first.5;
+    }
+
+  -- the range's start
+  module _ (start : Place) (empty : start.bytes ≡ []) where
+    start_left : (all : List Piece) → left all ≡ left (in_hand start ∷ left all)
+    start_left all = sym (left_left all) ∙ sym (passed (in_hand start) (left all) empty)
+
+    pub rest_start : (other : List Block) (records : List (ℕ × Rec)) → RecordsOf asked.revision other start.next (asked.end - start.next) records → RestOf asked other start records
+    rest_start other records of = record {
+      pieces = left of.pieces;
+      following = unranged other start.next (left of.pieces) (of.pieces, of.blocks, refl);
+      are = are_same of.pieces (in_hand start ∷ left of.pieces) records (start_left of.pieces) of.are;
+    }
+
+    start_rest : (other : List Block) (records : List (ℕ × Rec)) → RestOf asked other start records → RecordsOf asked.revision other start.next (asked.end - start.next) records
+    start_rest other records s =
+        let f = ranged other start.next s.pieces s.following in
+        let same : left (in_hand start ∷ s.pieces) ≡ left f.0 = ap (λ (ps : List Piece). left (in_hand start ∷ ps)) f.2 ∙ sym (start_left f.0) in
+        record { pieces = f.0; blocks = f.1; are = are_same (in_hand start ∷ s.pieces) f.0 records same s.are }
+
+    pub breaks_records : (now : Place) (done : List (ℕ × Rec)) (block : ℕ) → start.next ≤ now.next → (1 ≤ length now.bytes → start.next < now.next) → Scans asked file start now done → BreaksRest asked file now block → BreaksRecords asked.revision file start.next (asked.end - start.next) block
+    breaks_records now done block later ready scans breaks =
+        let low : start.next ≤ block = low_of now block later ready breaks.reached breaks.behind in
+        let within = breaks.within in
+        record {
+          asked = low;
+          within = omega arith;
+          broken = λ other records same of.
+              let back = scans.back other records (same_less now.next (block + 1) file other breaks.behind same) (rest_start other records of) in
+              breaks.broken other back.0 same back.2;
+        }
+      where
+        low_of : (now : Place) (block : ℕ) → start.next ≤ now.next → (1 ≤ length now.bytes → start.next < now.next) → (1 ≤ length now.bytes) ⊎ (now.next ≤ block) → now.next ≤ block + 1 → start.next ≤ block
+        low_of now block later ready (inl some) behind = let higher : start.next < now.next = ready some in omega arith
+        low_of now block later ready (inr le) behind = omega arith
+
+    -- the range's end
+    module _ (end : Place) (done : List (ℕ × Rec)) (scans : Scans asked file start end done) (nothing : end.bytes ≡ []) (past : asked.end ≤ end.next) where
+      rest_end : RestOf asked file end []
+      rest_end =
+          let zero_left : 0 ≡ asked.end - end.next = omega arith in
+          record {
+            pieces = [];
+            following = unranged file end.next [] ([], subst (λ (n : ℕ). RecordBlocks asked.revision file end.next n []) zero_left refl, refl);
+            are = passed (in_hand end) [] nothing;
+          }
+
+      pub all_records : RecordsOf asked.revision file start.next (asked.end - start.next) done
+      all_records = start_rest file done (subst (λ (l : List (ℕ × Rec)). RestOf asked file start l) (append-nil done) (scans.on file [] refl rest_end))
+
+      end_none : (rest : List (ℕ × Rec)) → RestOf asked file end rest → rest ≡ []
+      end_none [] s = refl
+      end_none ((address, r) ∷ rest) s =
+          let none_left : asked.end - end.next ≡ 0 = omega arith in
+          let f = ranged file end.next s.pieces s.following in
+          let blocks : f.0 ≡ [] = subst (λ (n : ℕ). RecordBlocks asked.revision file end.next n f.0) none_left f.1 in
+          let pieces : s.pieces ≡ [] = f.2 ∙ ap left blocks in
+          let all : left (in_hand end ∷ s.pieces) ≡ [] = ap (λ (ps : List Piece). left (in_hand end ∷ ps)) pieces ∙ passed (in_hand end) [] nothing in
+          absurd (subst (λ (ps : List Piece). StartsAt address ps) all s.are.1)
+
+      pub only_records : (records : List (ℕ × Rec)) → RecordsOf asked.revision file start.next (asked.end - start.next) records → records ≡ done
+      only_records records of =
+          let back = scans.back file records refl (rest_start file records of) in
+          back.1 ∙ ap (λ (l : List (ℕ × Rec)). done ++ l) (end_none back.0 back.2) ∙ append-nil done

@@ -1,0 +1,97 @@
+use Rattle.std.proofs.Common.{◌+◌, ◌-◌, List, ◌++◌, refl, sym, ◌∙◌, arith, subst}
+use Rattle.std.proofs.lemmas.Result.{err_from_is_err_and}
+use Rattle.block_host.specs.declared.block.Block.{Block}
+use Rattle.forest_model.specs.declared.stored.Rec.{Rec}
+use Rattle.doc_stream.specs.Sources.{asked_of}
+use Rattle.doc_stream.specs.Steps.{Takes, Stops, StopsRecord}
+use Rattle.doc_stream.proofs.Loads.{reason_of, reason_damaged}
+use Rattle.doc_stream.proofs.Fills.{moved_both}
+use Rattle.doc_stream.proofs.RecordBytes.{stops_head, stops_kind, stops_parts, takes_record, stops_form}
+use Rattle.doc_stream.proofs.reader.Reader.record.Goals as goal
+
+pub returns-in_err-fill-clause-reason : goal.returns-in_err-fill-clause-reason
+returns-in_err-fill-clause-reason g c =
+    let p = err_from_is_err_and c.from_residual.result c.from_residual.ensures.1 in
+    let asked = asked_of c.args.source.now in
+    let file = g.V.View.content c.args.view.now in
+    rw (p.1, p.2) (reason_of g.V.View.tells asked.revision (Stops asked file c.args.self.now 24) (StopsRecord asked file c.args.self.now)
+    (g.V.View.faults c.args.view.now) (g.V.View.faults c.args.view.now) (g.V.View.faults c.fill.new.view) c.in_err-fill.field-0.0 (omega arith)
+    (λ told n h. stops_head asked file c.args.self.now n h)
+    c.in_err-fill.ensures.reason)
+
+pub returns-in_default-clause-reason : goal.returns-in_default-clause-reason
+returns-in_default-clause-reason g c =
+    let asked = asked_of c.args.source.now in
+    let file = g.V.View.content c.args.view.now in
+    let mid = c.fill.new.self in
+    let moved = c.in_ok-fill.ensures.moved in
+    let later = moved.later in
+    let first = c.requires.first in
+    reason_damaged g.V.View.tells asked.revision (StopsRecord asked file c.args.self.now) (g.V.View.faults c.args.view.now) (g.V.View.faults c.fill.new.view) (mid.next - 1) c.damaged.result c.damaged.ensures
+    (λ told. stops_kind asked file c.args.self.now mid c.fill.new.out c.fill.auto.out (c.in_ok-fill.ensures.taken told) (omega arith) moved.within c.in_default.ensures.none)
+
+pub returns-in_err-key-clause-reason : goal.returns-in_err-key-clause-reason
+returns-in_err-key-clause-reason g c =
+    let p = err_from_is_err_and c.from_residual-in_err-key.result c.from_residual-in_err-key.ensures.1 in
+    let asked = asked_of c.args.source.now in
+    let file = g.V.View.content c.args.view.now in
+    let head = c.in-Some.head in
+    let small = c.in-Some.ensures.small in
+    let key = small.0 in
+    let body = small.2 in
+    let numbers = c.in-Some.ensures.numbers in
+    let count = head.key + head.meta + head.body in
+    let same = c.in_ok-fill.ensures.untroubled in
+    rw (p.1, p.2) (reason_of g.V.View.tells asked.revision (Stops asked (g.V.View.content c.fill.new.view) c.fill.new.self count) (StopsRecord asked file c.args.self.now)
+    (g.V.View.faults c.args.view.now) (g.V.View.faults c.fill.new.view) (g.V.View.faults c.parts.new.view) c.in_err-key.field-0.0 (omega arith)
+    (λ told n h. stops_parts asked file c.args.self.now c.fill.new.self c.fill.new.out c.fill.auto.out (c.in_ok-fill.ensures.taken told) head.kind head.meta head.key head.body head.store head.seq
+    (omega arith) (omega arith) numbers.0 numbers.1 c.in-Some.ensures.head count n (omega arith) (subst (λ (f : List Block). Stops asked f c.fill.new.self count n) (c.in_ok-fill.ensures.content told) h))
+    c.in_err-key.ensures.reason)
+
+pub returns-then-not-has_form-clause-reason : goal.returns-then-not-has_form-clause-reason
+returns-then-not-has_form-clause-reason g c =
+    let asked = asked_of c.args.source.now in
+    let file = g.V.View.content c.args.view.now in
+    let head = c.in-Some.head in
+    let small = c.in-Some.ensures.small in
+    let key = small.0 in
+    let body = small.2 in
+    let numbers = c.in-Some.ensures.numbers in
+    let rec : Rec = record { kind = head.kind; store = head.store; seq = head.seq; key = c.in_ok-key.key; meta = c.in_ok-key.meta; body = c.in_ok-key.body } in
+    let new = c.parts.new.self in
+    let moved = c.in_ok-key.ensures.moved in
+    let later = moved.later in
+    let earlier = c.in_ok-fill.ensures.moved in
+    let earlier_later = earlier.later in
+    let first = c.requires.first in
+    reason_damaged g.V.View.tells asked.revision (StopsRecord asked file c.args.self.now) (g.V.View.faults c.args.view.now) (g.V.View.faults c.parts.new.view) (new.next - 1) c.damaged-then-not-has_form.result c.damaged-then-not-has_form.ensures
+    (λ told. stops_form asked file c.args.self.now c.fill.new.self c.fill.new.out c.fill.auto.out (c.in_ok-fill.ensures.taken told) head.kind head.meta head.key head.body head.store head.seq
+    (omega arith) (omega arith) numbers.0 numbers.1 c.in-Some.ensures.head new rec refl c.in_ok-key.ensures.meta c.in_ok-key.ensures.key c.in_ok-key.ensures.body refl refl
+    (subst (λ (f : List Block). Takes asked f c.fill.new.self new (rec.key ++ rec.meta ++ rec.body)) (c.in_ok-fill.ensures.content told) (c.in_ok-key.ensures.taken told))
+    (omega arith) moved.within (sym c.has_form.ensures ∙ c.if-not-has_form.true))
+
+pub returns-clause-moved : goal.returns-clause-moved
+returns-clause-moved g c =
+    let asked = asked_of c.args.source.now in
+    let head = c.in-Some.head in
+    let small = c.in-Some.ensures.small in
+    let key = small.0 in
+    let meta = small.1 in
+    let body = small.2 in
+    let count = head.key + head.meta + head.body in
+    (24 + count, omega arith, omega arith, moved_both asked c.args.self.now c.fill.new.self c.parts.new.self 24 count c.in_ok-fill.ensures.moved c.in_ok-key.ensures.moved)
+
+pub returns-clause-taken : goal.returns-clause-taken
+returns-clause-taken g c told =
+    let asked = asked_of c.args.source.now in
+    let file = g.V.View.content c.args.view.now in
+    let head = c.in-Some.head in
+    let small = c.in-Some.ensures.small in
+    let key = small.0 in
+    let body = small.2 in
+    let numbers = c.in-Some.ensures.numbers in
+    let rec : Rec = record { kind = head.kind; store = head.store; seq = head.seq; key = c.in_ok-key.key; meta = c.in_ok-key.meta; body = c.in_ok-key.body } in
+    let new = c.parts.new.self in
+    takes_record asked file c.args.self.now c.fill.new.self c.fill.new.out c.fill.auto.out (c.in_ok-fill.ensures.taken told) head.kind head.meta head.key head.body head.store head.seq
+    (omega arith) (omega arith) numbers.0 numbers.1 c.in-Some.ensures.head new rec refl c.in_ok-key.ensures.meta c.in_ok-key.ensures.key c.in_ok-key.ensures.body refl refl
+    (subst (λ (f : List Block). Takes asked f c.fill.new.self new (rec.key ++ rec.meta ++ rec.body)) (c.in_ok-fill.ensures.content told) (c.in_ok-key.ensures.taken told))

@@ -1,0 +1,89 @@
+use Rattle.std.proofs.Common.{◌≡◌, ◌≤◌, ◌<◌, ◌-◌, ℕ, List, length, None, Ok, Err, inl, refl, sym, ◌∙◌, arith, ap, subst}
+use Rattle.std.proofs.lemmas.List.{nil_from_length}
+use Rattle.std.proofs.lemmas.Result.{err_from_is_err_and}
+use Rattle.block_host.specs.declared.block.Block.{Block}
+use Rattle.forest_model.specs.declared.stored.Rec.{Rec}
+use Rattle.doc_stream.specs.Causes.{BreaksRecords}
+use Rattle.doc_stream.specs.Runs.{RecordsOf}
+use Rattle.doc_stream.specs.Scans.{BreaksRest, Scans}
+use Rattle.doc_stream.specs.Steps.{Asked, Place}
+use Rattle.doc_stream.proofs.AddressReads.{refused}
+use Rattle.doc_stream.proofs.Loads.{reason_of}
+use Rattle.doc_stream.proofs.RangeScans.{ahead, scans_both, breaks_records, all_records, only_records}
+use Rattle.doc_stream.proofs.reading.scan.Goals as goal
+
+pub loop-reader-preserved : goal.loop-reader-preserved
+loop-reader-preserved g c =
+    let asked : Asked = record { revision = c.args.rev; tail = None; end = c.args.to } in
+    let file = g.V.View.content c.args.view.now in
+    let start = c.new-reader.result in
+    let old = c.loop-reader.reader in
+    let new = c.step.new.reader in
+    let inv = c.loop-reader.invariant in
+    let inv_later = inv.later in
+    let step_later : old.next ≤ new.next = c.in_ok-step.ensures.later in
+    record {
+      ready = λ some. (ahead start.next old.next new.next (length old.bytes) inv_later (λ before. (inv.ready before).0) step_later (c.in_ok-step.ensures.advanced some), c.in_ok-step.ensures.ready some);
+      later = omega arith;
+      scanned = λ told.
+          let more = c.in_ok-step.ensures.scanned told in
+          subst (λ (l : List (ℕ × Rec)). Scans asked file start new l) (sym more.1)
+          (scans_both asked refl file start old new c.loop-reader.records more.0 (inv.scanned told) (subst (λ (f : List Block). Scans asked f old new more.0) (inv.content told) more.2));
+      content = λ told. c.in_ok-step.ensures.content told ∙ inv.content told;
+      untroubled = c.in_ok-step.ensures.untroubled ∙ inv.untroubled;
+    }
+
+-- what breaks the rest breaks the records asked
+broken : (rev from to : ℕ) (file file' : List Block) (start now : Place) (done : List (ℕ × Rec)) (block : ℕ) → start.next ≡ from → length start.bytes ≡ 0 → file' ≡ file → start.next ≤ now.next → (1 ≤ length now.bytes → start.next < now.next)
+    → Scans (record { revision = rev; tail = None; end = to }) file start now done → BreaksRest (record { revision = rev; tail = None; end = to }) file' now block → BreaksRecords rev file from (to - from) block
+broken rev from to file file' start now done block next none same later ready scans breaks =
+    let asked : Asked = record { revision = rev; tail = None; end = to } in
+    subst (λ (n : ℕ). BreaksRecords rev file n (to - n) block) next
+    (breaks_records asked refl file start (nil_from_length start.bytes none) now done block later ready scans (subst (λ (f : List Block). BreaksRest asked f now block) same breaks))
+
+pub returns-in_err-step-clause-exact : goal.returns-in_err-step-clause-exact
+returns-in_err-step-clause-exact g c told records of =
+    let p = err_from_is_err_and c.from_residual.result c.from_residual.ensures.1 in
+    let asked : Asked = record { revision = c.args.rev; tail = None; end = c.args.to } in
+    let file = g.V.View.content c.args.view.now in
+    let file' = g.V.View.content c.loop-reader.view in
+    let inv = c.loop-reader.invariant in
+    refused g.V.View.tells c.args.rev (BreaksRest asked file' c.loop-reader.reader) (g.V.View.faults c.loop-reader.view) (g.V.View.faults c.step.new.view) c.in_err-step.field-0.0 c.from_residual.result records
+    (p.1 ∙ ap Err p.2) told
+    (λ block breaks. (broken c.args.rev c.args.from c.args.to file file' c.new-reader.result c.loop-reader.reader c.loop-reader.records block c.new-reader.ensures.next c.new-reader.ensures.bytes (inv.content told) inv.later (λ some. (inv.ready some).0) (inv.scanned told) breaks).broken file records refl of)
+    c.in_err-step.ensures.reason
+
+pub returns-in_err-step-clause-reason : goal.returns-in_err-step-clause-reason
+returns-in_err-step-clause-reason g c =
+    let p = err_from_is_err_and c.from_residual.result c.from_residual.ensures.1 in
+    let asked : Asked = record { revision = c.args.rev; tail = None; end = c.args.to } in
+    let file = g.V.View.content c.args.view.now in
+    let file' = g.V.View.content c.loop-reader.view in
+    let inv = c.loop-reader.invariant in
+    let same = inv.untroubled in
+    rw (p.1, p.2) (reason_of g.V.View.tells c.args.rev (BreaksRest asked file' c.loop-reader.reader) (BreaksRecords c.args.rev file c.args.from (c.args.to - c.args.from))
+    (g.V.View.faults c.args.view.now) (g.V.View.faults c.loop-reader.view) (g.V.View.faults c.step.new.view) c.in_err-step.field-0.0 (omega arith)
+    (λ told n breaks. broken c.args.rev c.args.from c.args.to file file' c.new-reader.result c.loop-reader.reader c.loop-reader.records n c.new-reader.ensures.next c.new-reader.ensures.bytes (inv.content told) inv.later (λ some. (inv.ready some).0) (inv.scanned told) breaks)
+    c.in_err-step.ensures.reason)
+
+pub returns-clause-records : goal.returns-clause-records
+returns-clause-records g c told =
+    let asked : Asked = record { revision = c.args.rev; tail = None; end = c.args.to } in
+    let file = g.V.View.content c.args.view.now in
+    let start = c.new-reader.result in
+    let next : c.next.result ≡ c.loop-reader.reader.next = c.next.ensures in
+    let past : c.args.to ≤ c.next.result = c.if-next-to.false in
+    subst (λ (n : ℕ). RecordsOf c.args.rev file n (c.args.to - n) c.loop-reader.records) c.new-reader.ensures.next
+    (all_records asked refl file start (nil_from_length start.bytes c.new-reader.ensures.bytes) c.loop-reader.reader c.loop-reader.records (c.loop-reader.invariant.scanned told) (c.has_bytes.ensures.none c.if-has_bytes.false) (omega arith))
+
+pub returns-clause-exact : goal.returns-clause-exact
+returns-clause-exact g c told records of =
+    let asked : Asked = record { revision = c.args.rev; tail = None; end = c.args.to } in
+    let file = g.V.View.content c.args.view.now in
+    let start = c.new-reader.result in
+    let next : c.next.result ≡ c.loop-reader.reader.next = c.next.ensures in
+    let past : c.args.to ≤ c.next.result = c.if-next-to.false in
+    let same : records ≡ c.loop-reader.records =
+    only_records asked refl file start (nil_from_length start.bytes c.new-reader.ensures.bytes) c.loop-reader.reader c.loop-reader.records (c.loop-reader.invariant.scanned told) (c.has_bytes.ensures.none c.if-has_bytes.false) (omega arith) records
+    (subst (λ (n : ℕ). RecordsOf c.args.rev file n (c.args.to - n) records) (sym c.new-reader.ensures.next) of) in
+    inl (ap Ok (sym same))

@@ -1,0 +1,16 @@
+use Rattle.std.proofs.Common.{◌≡◌, ◌≤◌, ◌<◌, length, IsTrue}
+use Rattle.doc_stream.specs.Scans.{Scans, still}
+use Rattle.doc_stream.specs.Sources.{asked_of}
+use Rattle.doc_stream.proofs.reading.scan.Given as goal
+
+abbrev pub invariant-loop-reader : goal.invariant-loop-reader
+invariant-loop-reader g l = record {
+  ready : 1 ≤ length l.reader.bytes → (l.initial.reader.next < l.reader.next) × (l.reader.next ≤ l.to);
+  later : l.initial.reader.next ≤ l.reader.next;
+  scanned : IsTrue g.V.View.tells → Scans (asked_of l.source) (g.V.View.content l.initial.view) l.initial.reader l.reader l.records;
+  content : IsTrue g.V.View.tells → g.V.View.content l.view ≡ g.V.View.content l.initial.view;
+  untroubled : g.V.View.faults l.view ≡ g.V.View.faults l.initial.view;
+}
+
+abbrev pub decreases-loop-reader : goal.decreases-loop-reader
+decreases-loop-reader g l = still l.to l.reader

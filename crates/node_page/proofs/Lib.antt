@@ -1,0 +1,7 @@
+mod Parts
+mod Longs
+mod Rising
+mod Written
+mod NodeParts
+mod StemParts
+mod RowOfEntries
