@@ -28,7 +28,7 @@ are_same_rows = pointwise is_same_row
 abbrev pub is_commit_worn : Held → Bool
 is_commit_worn p = any_worn (p.next_commit ∷ (p.place + 1) ∷ [])
 
--- no file of the store has its open block or its last header so far
+-- the open block or the last header lies further than in any file
 abbrev pub is_far : Held → Bool
 is_far p = nat_lt (2 ^ 40) p.tail.number || nat_lt (2 ^ 40) p.header_at
 

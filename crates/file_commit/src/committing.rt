@@ -1,4 +1,5 @@
-ghost use Rattle.std.specs.Prelude.{◌≡◌, ◌+◌, ◌^◌, ◌≤◌, ◌||◌, [], ℕ, IsTrue, Some, Err, OnOk, false};
+ghost use Rattle.std.specs.Prelude.{◌≡◌, ◌+◌, ◌^◌, ◌≤◌, ◌||◌, ◌⊎◌, [], ℕ, IsTrue, Some, Err, OnOk, false};
+ghost use Rattle.block_host.specs.Order.{IsSettled};
 ghost use Rattle.forest_model.specs.Blocks.{File};
 ghost use Rattle.forest_model.specs.declared.refusal.Refusal.TheVariants as Refusal;
 ghost use Rattle.forest_model.specs.declared.state.State.{State};
@@ -22,7 +23,8 @@ const FIRST_WORN: u64 = (1 << 62) - 1;
 const MOST_BLOCKS: u64 = 1 << 40;
 
 /// Commits what is new: the open block, if it has bytes, and once that is on the disk the header of the commit. Answers the
-/// commit's number, that of the last one where nothing is new. It takes no memory.
+/// commit's number, that of the last one where nothing is new. It takes no memory. Once it has put a header, a crash
+/// leaves of the file only what reads give.
 pub fn commit<H: Host>(file: &mut FileState<H>, at: &StoreRef) -> Result<u64, Refusal>
     ensures commits { (s : State) (f : File)
         → StandsAt H.tells (moment_of (H.disk file.old.parts.host) (H.View.content file.old.parts.view) (H.faults file.old.parts.host) (H.View.faults file.old.parts.view) file.old.parts) s
@@ -32,6 +34,7 @@ pub fn commit<H: Host>(file: &mut FileState<H>, at: &StoreRef) -> Result<u64, Re
         (moment_of (H.disk file.new.parts.host) (H.View.content file.new.parts.view) (H.faults file.new.parts.host) (H.View.faults file.new.parts.view) file.new.parts)
         result }
     ensures stopped { (faults : ℕ) → file.old.parts.stopped ≡ Some faults → result ≡ Err (Refusal.Stopped faults) }
+    ensures settled { IsTrue H.tells → OnOk result ((file.new.parts.place ≡ file.old.parts.place) ⊎ IsSettled file.old.parts.revision (H.disk file.new.parts.host)) }
     ensures aside { IsTrue H.tells → Aside file.old.parts.revision (H.disk file.old.parts.host) (H.disk file.new.parts.host) }
     ensures view_count { H.View.faults file.new.parts.view ≡ H.View.faults file.old.parts.view }
     ensures counts { H.faults file.old.parts.host ≤ H.faults file.new.parts.host }
@@ -54,6 +57,7 @@ fn commit_in<H: Host>(parts: &mut Parts<H>, at: &StoreRef) -> Result<u64, Refusa
         (moment_of (H.disk parts.old.host) (H.View.content parts.old.view) (H.faults parts.old.host) (H.View.faults parts.old.view) parts.old)
         (moment_of (H.disk parts.new.host) (H.View.content parts.new.view) (H.faults parts.new.host) (H.View.faults parts.new.view) parts.new)
         result }
+    ensures settled { IsTrue H.tells → OnOk result ((parts.new.place ≡ parts.old.place) ⊎ IsSettled parts.old.revision (H.disk parts.new.host)) }
     ensures aside { IsTrue H.tells → Aside parts.old.revision (H.disk parts.old.host) (H.disk parts.new.host) }
     ensures view_count { H.View.faults parts.new.view ≡ H.View.faults parts.old.view }
     ensures counts { H.faults parts.old.host ≤ H.faults parts.new.host }
@@ -73,7 +77,7 @@ fn commit_in<H: Host>(parts: &mut Parts<H>, at: &StoreRef) -> Result<u64, Refusa
     commit_new(parts, stores)
 }
 
-// Whether a number that the commit would draw is used up; that of a block, too, in a file that no store has.
+// Whether a number that a commit draws is used up: its own, its place, or that of a block, to which no file comes.
 fn is_used_up<H: Host>(parts: &Parts<H>) -> bool
     ensures { result ≡ (is_commit_worn (held parts.now) || is_far (held parts.now)) }
 {
@@ -92,6 +96,7 @@ fn commit_new<H: Host>(parts: &mut Parts<H>, stores: Stores) -> Result<u64, Refu
         (moment_of (H.disk parts.old.host) (H.View.content parts.old.view) (H.faults parts.old.host) (H.View.faults parts.old.view) parts.old)
         (moment_of (H.disk parts.new.host) (H.View.content parts.new.view) (H.faults parts.new.host) (H.View.faults parts.new.view) parts.new)
         result }
+    ensures settled { IsTrue H.tells → OnOk result ((parts.new.place ≡ parts.old.place) ⊎ IsSettled parts.old.revision (H.disk parts.new.host)) }
     ensures aside { IsTrue H.tells → Aside parts.old.revision (H.disk parts.old.host) (H.disk parts.new.host) }
     ensures view_count { H.View.faults parts.new.view ≡ H.View.faults parts.old.view }
     ensures counts { H.faults parts.old.host ≤ H.faults parts.new.host }

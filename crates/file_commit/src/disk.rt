@@ -1,5 +1,6 @@
 ghost use Rattle.std.specs.Prelude.{◌≡◌, ◌≤◌, ◌++◌, ◌∷◌, [], IsTrue, OnOk, OnErr};
 ghost use Rattle.block_host.specs.Disk.{risen};
+ghost use Rattle.block_host.specs.Order.{IsSettled};
 ghost use Rattle.file_core.specs.Updates.{Aside};
 ghost use Rattle.file_commit.specs.Committing.{listed};
 
@@ -16,6 +17,7 @@ pub(crate) fn put_commit<H: Host>(
 ) -> Result<(), Failed>
     ensures files { IsTrue H.tells → OnOk result ((H.disk host.new).files file ≡ (H.disk host.old).files file ++ listed block ++ header.now ∷ []) }
     ensures shown { IsTrue H.tells → OnOk result (H.View.content view.new ≡ (H.disk host.new).files file) }
+    ensures settled { IsTrue H.tells → OnOk result (IsSettled file (H.disk host.new)) }
     ensures aside { IsTrue H.tells → Aside file (H.disk host.old) (H.disk host.new) }
     ensures failed { OnErr result (risen (H.faults host.old) ≤ H.faults host.new) }
     ensures counts { H.faults host.old ≤ H.faults host.new }
@@ -30,6 +32,7 @@ pub(crate) fn put_commit<H: Host>(
 // Puts the open block, if there is one, at the end of the file, and makes sure of the file.
 fn put_open_block<H: Host>(host: &mut H, file: u64, block: Option<Block>) -> Result<(), Failed>
     ensures files { IsTrue H.tells → OnOk result ((H.disk host.new).files file ≡ (H.disk host.old).files file ++ listed block) }
+    ensures settled { IsTrue H.tells → OnOk result (IsSettled file (H.disk host.new)) }
     ensures aside { IsTrue H.tells → Aside file (H.disk host.old) (H.disk host.new) }
     ensures failed { OnErr result (risen (H.faults host.old) ≤ H.faults host.new) }
     ensures counts { H.faults host.old ≤ H.faults host.new }
@@ -44,6 +47,7 @@ fn put_open_block<H: Host>(host: &mut H, file: u64, block: Option<Block>) -> Res
 // Puts a header at the end of the file, and makes sure of it.
 fn put_header<H: Host>(host: &mut H, file: u64, header: &Block) -> Result<(), Failed>
     ensures files { IsTrue H.tells → OnOk result ((H.disk host.new).files file ≡ (H.disk host.old).files file ++ header.now ∷ []) }
+    ensures settled { IsTrue H.tells → OnOk result (IsSettled file (H.disk host.new)) }
     ensures aside { IsTrue H.tells → Aside file (H.disk host.old) (H.disk host.new) }
     ensures failed { OnErr result (risen (H.faults host.old) ≤ H.faults host.new) }
     ensures counts { H.faults host.old ≤ H.faults host.new }
