@@ -1,0 +1,58 @@
+-- What look-ups answer, by what a walk found.
+use Rattle.std.proofs.Common.{◌≡◌, inl, inr, ℕ, Bool, true, false, List, [], ◌∷◌, refl, sym, ap, ◌∙◌, subst, ◌&&◌}
+use Rattle.std.specs.Prelude.{Option, Some, None, nat_lt, ◌==◌, find, if◌then◌else◌}
+use Rattle.std.specs.List.{list_all}
+use Rattle.std.specs.Option.{option_or, option_map}
+use Rattle.std.proofs.lemmas.Bool.{and_parts, cases_Bool, or_left, eq-eqb, eqb-true}
+use Rattle.forest_model.specs.declared.refusal.Refusal.{Refusal}
+use Rattle.node_page.specs.Nodes.{Entry, rises}
+use Rattle.btree_cow.specs.Shelf.{Shelf}
+use Rattle.btree_cow.specs.Trees.{is_past, nearest, value_of}
+use Rattle.btree_cow.specs.Causes.{BreaksTree, BreaksFrom, Reason}
+use Rattle.btree_cow.specs.Finds.{Finds, value_in}
+use Rattle.btree_cow.specs.declared.walk.Place.{Place}
+use Rattle.btree_cow.proofs.Finds.{find_down, find_none_down}
+use Rattle.btree_cow.proofs.Steps.{none_down}
+
+skipped : (x : Entry) (q : ℕ) (b : Bool) (o : Option Entry) → (x.0 == q) ≡ false → value_in (option_or o (if b then Some x else None)) q ≡ value_in o q
+skipped x q b (Some e) h = refl
+skipped x q true None h = ap (λ (b : Bool). if b then Some x.1 else None) h
+skipped x q false None h = refl
+
+-- the nearest entry at or below a chunk has it, or none has it
+value_by_nearest : (q : ℕ) (es : List Entry) → rises es ≡ true → value_in (nearest true false es q) q ≡ value_of es q
+value_by_nearest q [] rise = refl
+value_by_nearest q (x ∷ es) rise =
+    let p : Entry → Bool = λ e. is_past true false q e.0 in
+    let value : Option Entry → Option ℕ = λ o. option_map (λ (e : Entry). e.1) o in
+    let parts = and_parts (list_all (λ (o : Entry). nat_lt x.0 o.0) es) (rises es) rise in
+    let down : nearest true false (x ∷ es) q ≡ option_or (nearest true false es q) (if p x then Some x else None) = find_down p (x ∷ []) es in
+    elim (cases_Bool (x.0 == q)) [
+      | inl same ↦
+          let is : x.0 ≡ q = eqb-true x.0 q same in
+          let above : list_all (λ (e : Entry). nat_lt q e.0) es ≡ true = subst (λ (n : ℕ). list_all (λ (e : Entry). nat_lt n e.0) es ≡ true) is parts.0 in
+          let reached : p x ≡ true = or_left (true && (q == x.0)) (nat_lt x.0 q) (eq-eqb q x.0 (sym is)) in
+          ap (λ (o : Option Entry). value_in o q)
+          (down ∙ ap (λ (o : Option Entry). option_or o (if p x then Some x else None)) (find_none_down p es (none_down true q es above)) ∙ ap (λ (b : Bool). if b then Some x else None) reached)
+          ∙ ap (λ (b : Bool). if b then Some x.1 else None) same
+          ∙ sym (ap (λ (b : Bool). value (if b then Some x else find (λ (e : Entry). e.0 == q) es)) same)
+      | inr other ↦
+          ap (λ (o : Option Entry). value_in o q) down
+          ∙ skipped x q (p x) (nearest true false es q) other
+          ∙ value_by_nearest q es parts.1
+          ∙ sym (ap (λ (b : Bool). value (if b then Some x else find (λ (e : Entry). e.0 == q) es)) other)
+    ]
+
+pub value_found : (ok : ℕ → ℕ → Bool) (s : Shelf) (q : ℕ) (entries : List Entry) (entry : Option Entry) (second : Option Place) → Finds ok s true false q entries entry second → value_in entry q ≡ value_of entries q
+value_found ok s q entries entry second f = ap (λ (o : Option Entry). value_in o q) f.here ∙ value_by_nearest q f.leaf f.rise ∙ sym f.value
+
+-- ---- the reasons
+
+pub reason_from : (tells : Bool) (s : Shelf) (file before after at : ℕ) (root : Option ℕ) (why : Refusal) → root ≡ Some at → Reason tells file (BreaksTree s at) before after why → Reason tells file (BreaksFrom s root) before after why
+reason_from tells s file before after at root why is (inl disk) = inl disk
+reason_from tells s file before after at root why is (inr damaged) = inr (damaged.0, damaged.1, λ told. (at, is, damaged.2 told))
+
+-- of a second walk, in the same blocks and at the same count of faults
+pub reason_then : (tells : Bool) (s mid : Shelf) (before middle after at : ℕ) (why : Refusal) → mid ≡ s → middle ≡ before → Reason tells mid.file (BreaksTree mid at) middle after why → Reason tells s.file (BreaksTree s at) before after why
+reason_then tells s mid before middle after at why kept same r =
+    subst (λ (n : ℕ). Reason tells s.file (BreaksTree s at) n after why) same (subst (λ (m : Shelf). Reason tells m.file (BreaksTree m at) middle after why) kept r)

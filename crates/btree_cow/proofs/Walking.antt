@@ -1,0 +1,287 @@
+-- A walk down a tree: how it begins, goes on and ends.
+use Rattle.std.proofs.Common.{◌≡◌, ◌⊎◌, inl, inr, ℕ, zero, suc, ◌<◌, ◌≤◌, ◌+◌, ◌-◌, ◌^◌, Bool, true, false, List, [], ◌∷◌, ◌++◌, length, refl, sym, ap, ◌∙◌, subst, arith, add-one, append_assoc}
+use Rattle.std.specs.Prelude.{Option, Some, None, IsTrue, IfSome, nat_lt, slice_get}
+use Rattle.std.specs.List.{list_all}
+use Rattle.std.specs.Option.{option_or, option_map_or, is_some}
+use Rattle.std.proofs.lemmas.Bool.{and_cases, and_parts, ltb-false, ltb-true, true≢false}
+use Rattle.std.proofs.lemmas.Option.{same_Some}
+use Rattle.node_page.specs.Nodes.{Entry, IsNode, fits}
+use Rattle.node_page.specs.declared.page.Page.{Page}
+use Rattle.forest_model.specs.declared.refusal.Refusal.{Refusal}
+use Rattle.btree_cow.specs.Shelf.{Shelf, Stored, is_stored}
+use Rattle.btree_cow.specs.Trees.{lies_in, Fan, NodeAt, TreeAt, nearest, value_of}
+use Rattle.btree_cow.specs.Causes.{IsAmong, Way, IsNoNode, BreaksTree, Reason}
+use Rattle.btree_cow.specs.Walks.{IsSibling, IsChoice, edge, first_of}
+use Rattle.btree_cow.specs.Finds.{Remains, Finds, IsWithin, next_place, lie_under}
+use Rattle.btree_cow.specs.declared.walk.Place.{Place}
+use Rattle.btree_cow.proofs.Finds.{or_found, or_nothing, or_assoc}
+use Rattle.btree_cow.proofs.Fans.{tree_inside, tree_some, tree_fit}
+use Rattle.btree_cow.proofs.Nearest.{first_found}
+use Rattle.btree_cow.proofs.Steps.{IsSound, Step, step_down, nowhere}
+use Rattle.btree_cow.proofs.Breaks.{one_at, no_leaf}
+
+-- ---- children of a choice
+
+get_behind : (before after : List Entry) (c : Entry) → slice_get (before ++ c ∷ after) (length before) ≡ Some c
+get_behind [] after c = refl
+get_behind (b ∷ before) after c = get_behind before after c
+
+among : (entries before after : List Entry) (c : Entry) → entries ≡ before ++ c ∷ after → IsAmong c entries
+among entries before after c is = (length before, ap (λ (l : List Entry). slice_get l (length before)) is ∙ get_behind before after c)
+
+chosen_among : (up : Bool) (q : ℕ) (entries : List Entry) (child : ℕ) (sibling : Option ℕ) → IsChoice up q entries child sibling → (c : Entry) × IsAmong c entries × (c.1 ≡ child)
+chosen_among up q entries child sibling ch = (ch.chosen, among entries ch.before ch.after ch.chosen ch.split, ch.child_is)
+
+sibling_among : (up : Bool) (entries before after : List Entry) (chosen : Entry) (at : ℕ) → entries ≡ before ++ chosen ∷ after → IsSibling up before after (Some at) → (c : Entry) × IsAmong c entries × (c.1 ≡ at)
+sibling_among true entries before after chosen at split is =
+    (is.0, among entries (before ++ chosen ∷ []) is.1 is.0 (split ∙ ap (λ (l : List Entry). before ++ chosen ∷ l) is.2 ∙ sym (append_assoc before (chosen ∷ []) (is.0 ∷ is.1))), is.3)
+sibling_among false entries before after chosen at split is =
+    (is.1, among entries is.0 (chosen ∷ after) is.1 (split ∙ ap (λ (l : List Entry). l ++ chosen ∷ after) is.2 ∙ append_assoc is.0 (is.1 ∷ []) (chosen ∷ after)), is.3)
+
+high_sibling : (up : Bool) (q : ℕ) (entries : List Entry) (child : ℕ) (sibling : Option ℕ) (at : ℕ) → IsChoice up q entries child sibling → option_map_or (λ (s : ℕ). nat_lt s at) sibling true ≡ false
+    → (c : Entry) × IsAmong c entries × (at ≤ c.1)
+high_sibling up q entries child None at ch high = absurd (true≢false high)
+high_sibling up q entries child (Some s) at ch high =
+    let there = sibling_among up entries ch.before ch.after ch.chosen s ch.split ch.sibling_is in
+    (there.0, there.1, omega (arith, ltb-false s at high, there.2))
+
+pub high_child : (up : Bool) (q : ℕ) (entries : List Entry) (child : ℕ) (sibling : Option ℕ) (at : ℕ) → IsChoice up q entries child sibling → lie_under child sibling at ≡ false → (c : Entry) × IsAmong c entries × (at ≤ c.1)
+high_child up q entries child sibling at ch high = elim (and_cases (nat_lt child at) (option_map_or (λ (s : ℕ). nat_lt s at) sibling true) high) [
+  | inl here ↦ (ch.chosen, among entries ch.before ch.after ch.chosen ch.split, omega (arith, ltb-false child at here, ch.child_is))
+  | inr there ↦ high_sibling up q entries child sibling at ch there
+]
+
+pub no_node : (s : Shelf) (at : ℕ) (page : Page) → is_stored s 2 at page → ((leaf : Bool) (entries : List Entry) → IsNode page leaf entries → ⊥) → IsNoNode s at
+no_node s at page stored none leaf entries node =
+    let both : Some (record { kind = 2; page = node.0 }) ≡ Some (record { kind = 2; page = page }) = sym node.1 ∙ stored in
+    let same : node.0 ≡ page = ap (λ (st : Stored). st.page) (same_Some (record { kind = 2; page = node.0 }) (record { kind = 2; page = page }) both) in
+    none leaf entries (subst (λ (p : Page). IsNode p leaf entries) same node.2)
+
+-- ---- the invariant
+
+-- Where a walk in a tree has come, the nearest entry is that of what stands there, else the first one where it goes on.
+pub record Leads (ok : ℕ → ℕ → Bool) (s : Shelf) (at : ℕ) (second : Option Place) (with up : Bool) (q : ℕ) (entries : List Entry) : Type 0 where
+  pub height : ℕ
+  pub least : ℕ
+  pub low : ℕ
+  pub high : Option ℕ
+  pub sub : List Entry
+  pub stands : TreeAt ok s height least at low high sub
+  pub value : value_of entries q ≡ value_of sub q
+  pub rest : List Entry
+  pub near : nearest with up entries q ≡ option_or (nearest with up sub q) (first_of up rest)
+  pub remains : Remains ok s second rest
+
+pub record IsWalk (tells : Bool) (s : Shelf) (from here : Place) (second : Option Place) (with up : Bool) (q : ℕ) : Type 0 where
+  pub within : IsWithin tells s from here
+  pub beyond : IfSome second (λ (place : Place). IsWithin tells s from place)
+  pub leads : IsTrue tells → (ok : ℕ → ℕ → Bool) (height least low : ℕ) (high : Option ℕ) (entries : List Entry) → TreeAt ok s height least from.at low high entries → Leads ok s here.at second with up q entries
+
+pub first_none : (up : Bool) → first_of up [] ≡ None
+first_none true = refl
+first_none false = refl
+
+pub walk_starts : (tells : Bool) (s : Shelf) (from : Place) (with up : Bool) (q : ℕ) → from.depth ≤ 9 → IsWalk tells s from from None with up q
+walk_starts tells s from with up q few = record {
+  within = record { shallow = few; way = λ told root way. way };
+  beyond = tt;
+  leads = λ told ok height least low high entries tree. record {
+    height = height;
+    least = least;
+    low = low;
+    high = high;
+    sub = entries;
+    stands = tree;
+    value = refl;
+    rest = [];
+    near = sym (ap (λ (o : Option Entry). option_or (nearest with up entries q) o) (first_none up) ∙ or_nothing (nearest with up entries q));
+    remains = refl;
+  };
+}
+
+-- ---- one link more
+
+way_more : (s : Shelf) (depth root at : ℕ) (children : List Entry) (c : Entry) → Way s depth root at → NodeAt s at false children → IsAmong c children → Way s (suc depth) root c.1
+way_more s zero root at children c way node is = (children, c, subst (λ (b : ℕ). NodeAt s b false children) (sym way) node, is, refl)
+way_more s (suc depth) root at children c way node is = (way.0, way.1, way.2, way.3, way_more s depth way.1.1 at children c way.4 node is)
+
+one_deeper : (tells : Bool) (s : Shelf) (from here : Place) (children : List Entry) (c : Entry) (child : ℕ) → IsWithin tells s from here → here.depth < 9 → (IsTrue tells → NodeAt s here.at false children) → IsAmong c children → c.1 ≡ child
+    → IsWithin tells s from (record { at = child; depth = here.depth + 1 })
+one_deeper tells s from here children c child within few node is same = record {
+  shallow = omega arith;
+  way = λ told root way.
+      subst (λ (d : ℕ). Way s d root child) (sym (add-one here.depth))
+      (subst (λ (b : ℕ). Way s (suc here.depth) root b) same (way_more s here.depth root here.at children c (within.way told root way) (node told) is));
+}
+
+beyond_more : (tells : Bool) (s : Shelf) (from here : Place) (second : Option Place) (up : Bool) (q : ℕ) (children : List Entry) (child : ℕ) (sibling : Option ℕ)
+    → IsWithin tells s from here → here.depth < 9 → (IsTrue tells → NodeAt s here.at false children) → IsChoice up q children child sibling → IfSome second (λ (place : Place). IsWithin tells s from place)
+    → IfSome (next_place sibling (here.depth + 1) second) (λ (place : Place). IsWithin tells s from place)
+beyond_more tells s from here second up q children child None within few node ch before = before
+beyond_more tells s from here second up q children child (Some at) within few node ch before =
+    let there = sibling_among up children ch.before ch.after ch.chosen at ch.split ch.sibling_is in
+    one_deeper tells s from here children there.0 at within few node there.1 there.2
+
+sound : (ok : ℕ → ℕ → Bool) (s : Shelf) (height : ℕ) → IsSound (TreeAt ok s height 126)
+sound ok s height = record {
+  inside = λ at low high es tree. tree_inside ok s height 126 at low high es tree;
+  some = λ at low high es tree. tree_some ok s height 126 at low high es tree;
+  fit = λ at low high es tree. tree_fit ok s height 126 at low high es tree;
+}
+
+-- an inner node of a tree, by its children
+pub record IsInner (ok : ℕ → ℕ → Bool) (s : Shelf) (height at low : ℕ) (high : Option ℕ) (children entries : List Entry) : Type 0 where
+  pub lie : list_all (lies_in low high) children ≡ true
+  pub fan : Fan (TreeAt ok s height 126) at children high entries
+
+inner : (ok : ℕ → ℕ → Bool) (s : Shelf) (height least at low : ℕ) (high : Option ℕ) (children entries : List Entry) → NodeAt s at false children → TreeAt ok s height least at low high entries
+    → (below : ℕ) × IsInner ok s below at low high children entries
+inner ok s zero least at low high children entries node tree = absurd (no_leaf s at entries children tree.0 node)
+inner ok s (suc height) least at low high children entries node tree =
+    let same : tree.0 ≡ children = (one_at s at false false tree.0 children tree.1 node).1 in (
+      height,
+      record {
+        lie = subst (λ (l : List Entry). list_all (lies_in low high) l ≡ true) same tree.4;
+        fan = subst (λ (l : List Entry). Fan (TreeAt ok s height 126) at l high entries) same tree.5;
+      },
+    )
+
+leads_on : (ok : ℕ → ℕ → Bool) (s : Shelf) (height at child depth : ℕ) (second : Option Place) (with up : Bool) (q : ℕ) (entries : List Entry) (sibling : Option ℕ) (l : Leads ok s at second with up q entries)
+    → Step (TreeAt ok s height 126) with up q l.sub child sibling → Leads ok s child (next_place sibling depth second) with up q entries
+leads_on ok s height at child depth second with up q entries None l step = record {
+  height = height;
+  least = 126;
+  low = step.low;
+  high = step.high;
+  sub = step.first;
+  stands = step.stands;
+  value = l.value ∙ step.value;
+  rest = l.rest;
+  near = l.near ∙ ap (λ (o : Option Entry). option_or o (first_of up l.rest)) step.near;
+  remains = l.remains;
+}
+leads_on ok s height at child depth second with up q entries (Some sibling) l step =
+    let others = step.near.2 in
+    let found = first_found up others (tree_some ok s height 126 sibling step.near.0 step.near.1 others step.near.3) (tree_fit ok s height 126 sibling step.near.0 step.near.1 others step.near.3) in
+    record {
+      height = height;
+      least = 126;
+      low = step.low;
+      high = step.high;
+      sub = step.first;
+      stands = step.stands;
+      value = l.value ∙ step.value;
+      rest = others;
+      near = l.near ∙ ap (λ (o : Option Entry). option_or o (first_of up l.rest)) step.near.4
+          ∙ or_assoc (nearest with up step.first q) (first_of up others) (first_of up l.rest)
+          ∙ ap (option_or (nearest with up step.first q)) (or_found (first_of up others) (first_of up l.rest) found);
+      remains = (height, step.near.0, step.near.1, step.near.3);
+    }
+
+pub walk_goes_on : (tells : Bool) (s : Shelf) (from here : Place) (second : Option Place) (with up : Bool) (q : ℕ) (page : Page) (children : List Entry) (child : ℕ) (sibling : Option ℕ)
+    → IsWalk tells s from here second with up q → here.depth < 9 → IsNode page false children → (IsTrue tells → is_stored s 2 here.at page) → IsChoice up q children child sibling
+    → IsWalk tells s from (record { at = child; depth = here.depth + 1 }) (next_place sibling (here.depth + 1) second) with up q
+walk_goes_on tells s from here second with up q page children child sibling w few node stored ch =
+    let there : IsTrue tells → NodeAt s here.at false children = λ told. (page, stored told, node) in
+    let mine = chosen_among up q children child sibling ch in
+    record {
+      within = one_deeper tells s from here children mine.0 child w.within few there mine.1 mine.2;
+      beyond = beyond_more tells s from here second up q children child sibling w.within few there ch w.beyond;
+      leads = λ told ok height least low high entries tree.
+          let l = w.leads told ok height least low high entries tree in
+          let in_it = inner ok s l.height l.least here.at l.low l.high children l.sub (there told) l.stands in
+          leads_on ok s in_it.0 here.at child (here.depth + 1) second with up q entries sibling l
+          (step_down (TreeAt ok s in_it.0 126) (sound ok s in_it.0) here.at l.low q l.high with up children l.sub child sibling ch node.rise in_it.1.lie in_it.1.fan);
+    }
+
+-- ---- the ends
+
+leaf_of : (ok : ℕ → ℕ → Bool) (s : Shelf) (height least at low : ℕ) (high : Option ℕ) (leaf entries : List Entry) → NodeAt s at true leaf → TreeAt ok s height least at low high entries → entries ≡ leaf
+leaf_of ok s zero least at low high leaf entries node tree = (one_at s at true true entries leaf tree.0 node).1
+leaf_of ok s (suc height) least at low high leaf entries node tree = absurd (no_leaf s at leaf tree.0 node tree.1)
+
+pub ends_in_leaf : (tells : Bool) (s : Shelf) (from here : Place) (second : Option Place) (with up : Bool) (q : ℕ) (page : Page) (leaf : List Entry) (entry : Option Entry)
+    → IsWalk tells s from here second with up q → IsNode page true leaf → (IsTrue tells → is_stored s 2 here.at page) → entry ≡ nearest with up leaf q
+    → IsTrue tells → (ok : ℕ → ℕ → Bool) (height least low : ℕ) (high : Option ℕ) (entries : List Entry) → TreeAt ok s height least from.at low high entries → Finds ok s with up q entries entry second
+ends_in_leaf tells s from here second with up q page leaf entry w node stored is told ok height least low high entries tree =
+    let l = w.leads told ok height least low high entries tree in
+    let same : l.sub ≡ leaf = leaf_of ok s l.height l.least here.at l.low l.high leaf l.sub (page, stored told, node) l.stands in
+    record {
+      leaf = leaf;
+      rise = node.rise;
+      here = is;
+      value = l.value ∙ ap (λ (es : List Entry). value_of es q) same;
+      rest = l.rest;
+      near = l.near ∙ ap (λ (o : Option Entry). option_or o (first_of up l.rest)) (ap (λ (es : List Entry). nearest with up es q) same ∙ sym is);
+      remains = l.remains;
+    }
+
+nearest_nothing : (with up : Bool) (q : ℕ) → None ≡ nearest with up [] q
+nearest_nothing with true q = refl
+nearest_nothing with false q = refl
+
+pub ends_before : (tells : Bool) (s : Shelf) (from here : Place) (second : Option Place) (with up : Bool) (q : ℕ) (page : Page) (children : List Entry)
+    → IsWalk tells s from here second with up q → IsNode page false children → (IsTrue tells → is_stored s 2 here.at page) → up ≡ false → list_all (λ (e : Entry). nat_lt q e.0) children ≡ true
+    → IsTrue tells → (ok : ℕ → ℕ → Bool) (height least low : ℕ) (high : Option ℕ) (entries : List Entry) → TreeAt ok s height least from.at low high entries → Finds ok s with up q entries None second
+ends_before tells s from here second with up q page children w node stored down above told ok height least low high entries tree =
+    let l = w.leads told ok height least low high entries tree in
+    let in_it = inner ok s l.height l.least here.at l.low l.high children l.sub (page, stored told, node) l.stands in
+    let none = nowhere (TreeAt ok s in_it.0 126) (sound ok s in_it.0) here.at l.low q l.high with children l.sub in_it.1.lie above in_it.1.fan in
+    record {
+      leaf = [];
+      rise = refl;
+      here = nearest_nothing with up q;
+      value = l.value ∙ none.0;
+      rest = l.rest;
+      near = l.near ∙ ap (λ (o : Option Entry). option_or o (first_of up l.rest)) (ap (λ (b : Bool). nearest with b l.sub q) down ∙ none.1);
+      remains = l.remains;
+    }
+
+-- from the edge a walk finds an entry in any node
+pub leaf_has : (with up : Bool) (q : ℕ) (page : Page) (leaf : List Entry) (entry : Option Entry) → IsNode page true leaf → entry ≡ nearest with up leaf q → with ≡ true → q ≡ edge up → is_some entry ≡ true
+leaf_has with up q page leaf entry node is all at_edge =
+    let found = first_found up leaf node.some node.fit in
+    let same : entry ≡ first_of up leaf = is ∙ ap (λ (b : Bool). nearest b up leaf q) all ∙ ap (λ (n : ℕ). nearest true up leaf n) at_edge in
+    ap (λ (o : Option Entry). is_some o) (same ∙ found.1)
+
+pub not_before : (up : Bool) (q : ℕ) (page : Page) (children : List Entry) → IsNode page false children → up ≡ false → list_all (λ (e : Entry). nat_lt q e.0) children ≡ true → q ≡ edge up → ⊥
+not_before up q page children node down above at_edge = none children node.some node.fit above
+  where
+    none : (es : List Entry) → 1 ≤ length es → list_all fits es ≡ true → list_all (λ (e : Entry). nat_lt q e.0) es ≡ true → ⊥
+    none [] some fit high = omega arith
+    none (e ∷ es) some fit high =
+        let small : e.0 < 2 ^ 64 = ltb-true e.0 (2 ^ 64) (and_parts _ _ (and_parts (fits e) (list_all fits es) fit).0).0 in
+        let more : q < e.0 = ltb-true q e.0 (and_parts (nat_lt q e.0) (list_all (λ (e : Entry). nat_lt q e.0) es) high).0 in
+        let last : q ≡ 2 ^ 64 - 1 = at_edge ∙ ap edge down in
+        omega arith
+
+-- ---- the reasons
+
+pub breaks_as_no_node : (tells : Bool) (s : Shelf) (from here : Place) (file first before after root : ℕ) (why : Refusal) → IsWithin tells s from here → before ≡ first → (IsTrue tells → Way s from.depth root from.at)
+    → Reason tells file (λ block. (block ≡ here.at) × IsNoNode s here.at) before after why → Reason tells file (BreaksTree s root) first after why
+breaks_as_no_node tells s from here file first before after root why w same way (inl disk) = inl (disk.0, omega (arith, disk.1))
+breaks_as_no_node tells s from here file first before after root why w same way (inr damaged) = inr (
+  damaged.0,
+  damaged.1,
+  λ told.
+      let broken = damaged.2 told in
+      subst (λ (b : ℕ). BreaksTree s root b) (sym broken.0) (record { depth = here.depth; reached = w.way told root (way told); shallow = w.shallow; broken = inl broken.1 }),
+)
+
+pub breaks_as_inner : (tells : Bool) (s : Shelf) (from here : Place) (file before after root : ℕ) (why : Refusal) (page : Page) (children : List Entry) → IsWithin tells s from here → (IsTrue tells → Way s from.depth root from.at)
+    → IsNode page false children → (IsTrue tells → is_stored s 2 here.at page) → why ≡ Refusal.Damaged file here.at → (9 ≤ here.depth) ⊎ ((c : Entry) × IsAmong c children × (here.at ≤ c.1))
+    → Reason tells file (BreaksTree s root) before after why
+breaks_as_inner tells s from here file before after root why page children w way node stored is how = inr (
+  here.at,
+  is,
+  λ told.
+      record {
+        depth = here.depth;
+        reached = w.way told root (way told);
+        shallow = w.shallow;
+        broken = elim how [
+          | inl deep ↦ inr (inr (deep, children, (page, stored told, node)))
+          | inr high ↦ inr (inl (children, high.0, (page, stored told, node), high.1, high.2))
+        ];
+      },
+)

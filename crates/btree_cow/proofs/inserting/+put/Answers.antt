@@ -1,0 +1,43 @@
+use Rattle.std.proofs.Common.{refl}
+use Rattle.std.proofs.lemmas.Result.{err_from_is_err_and}
+use Rattle.btree_cow.proofs.Additions.{read_fails}
+use Rattle.btree_cow.proofs.Insertions.{leaf_rises, leaf_put, inner_rises, inner_put, nowhere_fails, below_fails}
+use Rattle.btree_cow.proofs.inserting.+put.Goals as goal
+
+pub returns-in_err-node-clause-reason : goal.returns-in_err-node-clause-reason
+returns-in_err-node-clause-reason g t c =
+    let p = err_from_is_err_and c.from_residual.result c.from_residual.ensures.1 in
+    rw (p.1, p.2) (read_fails g.P.Pages.tells c.args.left c.args.at (g.P.Pages.shelf c.args.pages.now) (g.P.Pages.shelf c.read_node.new.pages) _ _ _ c.in_err-node.ensures.reason)
+
+pub store-requires-clause-rise : goal.store-requires-clause-rise
+store-requires-clause-rise g t c = leaf_rises c.as_slice.result.now c.put_entry.new.entries.items c.in_ok-node.node.entries.items c.args.chunk c.args.value c.as_slice.ensures.value c.put_entry.ensures c.in_ok-node.ensures.node.rise
+
+pub returns-then-node-clause-puts : goal.returns-then-node-clause-puts
+returns-then-node-clause-puts g t c = λ told.
+    leaf_put g.P.Pages.tells (g.P.Pages.shelf c.args.pages.now) (g.P.Pages.shelf c.read_node.new.pages) (g.P.Pages.shelf c.store.new.pages) c.store.result c.args.at c.args.chunk c.args.value c.in_ok-node.node.leaf c.in_ok-node.node.entries.items
+    c.put_entry.new.entries.items c.as_slice.result.now told (g.met.P.Pages.lie_below told c.args.pages.now) c.in_ok-node.ensures.kept c.if-node.true c.in_ok-node.ensures.node c.as_slice.ensures.value c.put_entry.ensures (c.store.ensures.stores told)
+
+pub returns-in_default-clause-reason : goal.returns-in_default-clause-reason
+returns-in_default-clause-reason g t c =
+    nowhere_fails g.P.Pages.tells c.args.left c.args.at c.file.result _ _ (g.P.Pages.shelf c.args.pages.now) (g.P.Pages.shelf c.read_node.new.pages) c.in_ok-node.node.leaf c.in_ok-node.node.entries.items c.as_slice-2.result.now
+    c.in_ok-node.ensures.kept c.file.ensures c.if-node.false c.in_ok-node.ensures.node c.as_slice-2.ensures.value c.in_default.ensures.none
+
+pub returns-in_err-grown-clause-reason : goal.returns-in_err-grown-clause-reason
+returns-in_err-grown-clause-reason g t c =
+    let p = err_from_is_err_and c.from_residual-in_err-grown.result c.from_residual-in_err-grown.ensures.1 in
+    rw (p.1, p.2)
+    (below_fails g.P.Pages.tells c.args.left _ c.args.at c.args.chunk c.in-Some.place c.in-Some.child _ _ _ (g.P.Pages.shelf c.args.pages.now) (g.P.Pages.shelf c.read_node.new.pages) (g.P.Pages.shelf c.put.new.pages)
+    c.in_ok-node.node.leaf c.in_ok-node.node.entries.items c.as_slice-2.result.now _ c.in_ok-node.ensures.kept c.in_ok-node.ensures.untroubled c.in-Some.ensures.lower.0 refl c.if-node.false c.in_ok-node.ensures.node c.as_slice-2.ensures.value
+    c.in-Some.ensures.found c.in_err-grown.ensures.reason)
+
+pub store-requires-2-clause-rise : goal.store-requires-2-clause-rise
+store-requires-2-clause-rise g t c =
+    inner_rises c.as_slice-3.result.now c.replace_child.new.children.items c.in_ok-node.node.entries.items c.as_slice-2.result.now c.args.chunk c.in-Some.place c.in-Some.child c.in_ok-grown.grown
+    c.as_slice-3.ensures.value c.replace_child.ensures c.as_slice-2.ensures.value c.in-Some.ensures.found c.in_ok-node.ensures.node.rise
+
+pub returns-clause-puts : goal.returns-clause-puts
+returns-clause-puts g t c = λ told.
+    inner_put g.P.Pages.tells (g.P.Pages.shelf c.args.pages.now) (g.P.Pages.shelf c.read_node.new.pages) (g.P.Pages.shelf c.put.new.pages) (g.P.Pages.shelf c.store-2.new.pages) c.store-2.result c.args.at c.args.chunk c.args.value c.in-Some.place c.in-Some.child
+    c.in_ok-node.node.leaf c.in_ok-node.node.entries.items c.as_slice-2.result.now c.replace_child.new.children.items c.as_slice-3.result.now c.in_ok-grown.grown told (g.met.P.Pages.lie_below told c.args.pages.now) (g.met.P.Pages.lie_below told c.put.new.pages)
+    c.in_ok-node.ensures.kept c.if-node.false c.in_ok-node.ensures.node c.as_slice-2.ensures.value c.in-Some.ensures.found (c.in_ok-grown.ensures.appends.later told) (c.in_ok-grown.ensures.puts told)
+    c.as_slice-3.ensures.value c.replace_child.ensures (c.store-2.ensures.stores told)

@@ -1,0 +1,20 @@
+use Rattle.std.proofs.lemmas.Result.{err_from_is_err_and}
+use Rattle.btree_cow.proofs.Insertions.{root_fails, root_stands, root_grows}
+use Rattle.btree_cow.proofs.inserting.insert.Goals as goal
+
+pub returns-in_err-block-clause-stands : goal.returns-in_err-block-clause-stands
+returns-in_err-block-clause-stands g c = λ told ok entries tree.
+    let p = err_from_is_err_and c.from_residual.result c.from_residual.ensures.1 in
+    rw (p.1, p.2)
+    (root_stands g.P.Pages.tells ok c.args.root c.in-Some.at (g.P.Pages.shelf c.args.pages.now) (g.P.Pages.shelf c.put.new.pages) _ _ _ entries told c.in-Some.is tree c.in_err-block.ensures.reason)
+
+pub returns-in_err-block-clause-reason : goal.returns-in_err-block-clause-reason
+returns-in_err-block-clause-reason g c =
+    let p = err_from_is_err_and c.from_residual.result c.from_residual.ensures.1 in
+    rw (p.1, p.2)
+    (root_fails g.P.Pages.tells c.args.root c.in-Some.at (g.P.Pages.shelf c.args.pages.now) (g.P.Pages.shelf c.put.new.pages) _ _ _ c.in-Some.is c.in_err-block.ensures.reason)
+
+pub returns-in-Two-clause-inserted : goal.returns-in-Two-clause-inserted
+returns-in-Two-clause-inserted g c = λ told ok entries well okay tree.
+    root_grows g.P.Pages.tells (g.P.Pages.shelf c.args.pages.now) (g.P.Pages.shelf c.put.new.pages) (g.P.Pages.shelf c.add_node-in-Two.new.pages) c.add_node-in-Two.result c.args.root c.in-Some.at c.args.chunk c.args.value c.in-Two.left c.in-Two.right c.in_ok-block.field-0
+    told (g.met.P.Pages.lie_below told c.put.new.pages) c.in-Some.is c.in-Two.is c.in_ok-block.ensures.apart (c.in_ok-block.ensures.puts told) (c.add_node-in-Two.ensures.added told) ok entries well okay tree

@@ -1,0 +1,28 @@
+use Rattle.std.proofs.Common.{refl, ◌∙◌, ℕ, subst}
+use Rattle.std.specs.Prelude.{Option, None}
+use Rattle.std.proofs.lemmas.Result.{err_from_is_err_and}
+use Rattle.btree_cow.specs.Trees.{Tree}
+use Rattle.btree_cow.proofs.Breaks.{only_disk}
+use Rattle.btree_cow.proofs.Answered.{reason_from, value_found}
+use Rattle.btree_cow.proofs.look_up.find.Goals as goal
+
+pub returns-in_err-found-clause-stands : goal.returns-in_err-found-clause-stands
+returns-in_err-found-clause-stands g c = λ told ok entries tree.
+    let p = err_from_is_err_and c.from_residual.result c.from_residual.ensures.1 in
+    rw (p.1, p.2)
+    (only_disk g.P.Pages.tells ok (g.P.Pages.shelf c.args.pages.now) c.args.root entries (g.P.Pages.shelf c.args.pages.now).file (g.P.Pages.faults c.args.pages.now) (g.P.Pages.faults c.walk.new.pages) c.in_err-found.field-0.0 told tree
+    (reason_from g.P.Pages.tells (g.P.Pages.shelf c.args.pages.now) (g.P.Pages.shelf c.args.pages.now).file (g.P.Pages.faults c.args.pages.now) (g.P.Pages.faults c.walk.new.pages) c.in-Some.at c.args.root c.in_err-found.field-0.0 c.in-Some.is
+    (c.in_err-found.ensures.reason c.in-Some.at (λ _. refl))))
+
+pub returns-in_err-found-clause-reason : goal.returns-in_err-found-clause-reason
+returns-in_err-found-clause-reason g c =
+    let p = err_from_is_err_and c.from_residual.result c.from_residual.ensures.1 in
+    rw (p.1, p.2)
+    (reason_from g.P.Pages.tells (g.P.Pages.shelf c.args.pages.now) (g.P.Pages.shelf c.args.pages.now).file (g.P.Pages.faults c.args.pages.now) (g.P.Pages.faults c.walk.new.pages) c.in-Some.at c.args.root c.in_err-found.field-0.0 c.in-Some.is
+    (c.in_err-found.ensures.reason c.in-Some.at (λ _. refl)))
+
+pub returns-clause-found : goal.returns-clause-found
+returns-clause-found g c = λ told ok entries tree.
+    let there = subst (λ (root : Option ℕ). Tree ok (g.P.Pages.shelf c.args.pages.now) root entries) c.in-Some.is tree in
+    c.value_at.ensures
+    ∙ value_found ok (g.P.Pages.shelf c.args.pages.now) c.args.chunk entries c.in_ok-found.found.entry c.in_ok-found.found.second (c.in_ok-found.ensures.found told ok there.0 1 0 None entries there.1)

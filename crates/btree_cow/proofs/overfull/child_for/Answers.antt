@@ -1,0 +1,6 @@
+use Rattle.std.proofs.Common.{refl}
+use Rattle.btree_cow.proofs.WithEntries.{child_of}
+use Rattle.btree_cow.proofs.overfull.child_for.Goals as goal
+
+pub returns-else-at-block-clause-found : goal.returns-else-at-block-clause-found
+returns-else-at-block-clause-found c = child_of _ _ _ _ (0, 0) c.child_place-place.ensures.cut refl

@@ -1,0 +1,36 @@
+use Rattle.std.proofs.Common.{refl}
+use Rattle.std.proofs.lemmas.Result.{err_from_is_err_and}
+use Rattle.btree_cow.proofs.Additions.{read_fails}
+use Rattle.btree_cow.proofs.Insertions.{nowhere_fails, below_fails}
+use Rattle.btree_cow.proofs.Removals.{inner_removed, refill_failed}
+use Rattle.btree_cow.proofs.removing.+remove_from.Goals as goal
+
+pub returns-in_err-node-clause-reason : goal.returns-in_err-node-clause-reason
+returns-in_err-node-clause-reason g t c =
+    let p = err_from_is_err_and c.from_residual.result c.from_residual.ensures.1 in
+    rw (p.1, p.2) (read_fails g.P.Pages.tells c.args.left c.args.at (g.P.Pages.shelf c.args.pages.now) (g.P.Pages.shelf c.read_node.new.pages) _ _ _ c.in_err-node.ensures.reason)
+
+pub returns-in_default-clause-reason : goal.returns-in_default-clause-reason
+returns-in_default-clause-reason g t c =
+    nowhere_fails g.P.Pages.tells c.args.left c.args.at c.file.result _ _ (g.P.Pages.shelf c.args.pages.now) (g.P.Pages.shelf c.read_node.new.pages) c.in_ok-node.node.leaf c.in_ok-node.node.entries.items c.as_slice.result.now
+    c.in_ok-node.ensures.kept c.file.ensures c.if-node.false c.in_ok-node.ensures.node c.as_slice.ensures.value c.in_default.ensures.none
+
+pub returns-in_err-shrunk-clause-reason : goal.returns-in_err-shrunk-clause-reason
+returns-in_err-shrunk-clause-reason g t c =
+    let p = err_from_is_err_and c.from_residual-in_err-shrunk.result c.from_residual-in_err-shrunk.ensures.1 in
+    rw (p.1, p.2)
+    (below_fails g.P.Pages.tells c.args.left _ c.args.at c.args.chunk c.in-Some.place c.in-Some.child _ _ _ (g.P.Pages.shelf c.args.pages.now) (g.P.Pages.shelf c.read_node.new.pages) (g.P.Pages.shelf c.remove_from.new.pages)
+    c.in_ok-node.node.leaf c.in_ok-node.node.entries.items c.as_slice.result.now _ c.in_ok-node.ensures.kept c.in_ok-node.ensures.untroubled c.in-Some.ensures.lower.0 refl c.if-node.false c.in_ok-node.ensures.node c.as_slice.ensures.value
+    c.in-Some.ensures.found c.in_err-shrunk.ensures.reason)
+
+pub returns-clause-removes : goal.returns-clause-removes
+returns-clause-removes g t c = λ told.
+    inner_removed g.P.Pages.tells (g.P.Pages.shelf c.args.pages.now) (g.P.Pages.shelf c.read_node.new.pages) (g.P.Pages.shelf c.remove_from.new.pages) (g.P.Pages.shelf c.pass_up.new.pages) c.pass_up.result c.args.at c.args.chunk c.in-Some.place c.in-Some.child
+    c.in_ok-node.node.leaf c.in_ok-node.node.entries.items c.as_slice.result.now c.in_ok-shrunk.shrunk told (g.met.P.Pages.lie_below told c.args.pages.now) c.in_ok-node.ensures.kept c.if-node.false c.in_ok-node.ensures.node c.as_slice.ensures.value
+    c.in-Some.ensures.found (c.in_ok-shrunk.ensures.appends.later told) (c.in_ok-shrunk.ensures.removes told) (c.pass_up.ensures.passes told c.if-node.false)
+
+pub returns-clause-reason : goal.returns-clause-reason
+returns-clause-reason g t c =
+    refill_failed g.P.Pages.tells c.args.left c.args.at (g.P.Pages.shelf c.args.pages.now) (g.P.Pages.shelf c.read_node.new.pages) (g.P.Pages.shelf c.remove_from.new.pages) (g.P.Pages.shelf c.pass_up.new.pages) _ _ _ _ c.pass_up.result
+    c.in_ok-node.node.leaf c.in_ok-node.node.entries.items c.in-Some.ensures.lower.0 c.in_ok-node.ensures.kept c.in_ok-node.ensures.untroubled c.in_ok-shrunk.ensures.untroubled c.if-node.false c.in_ok-node.ensures.node
+    c.in_ok-shrunk.ensures.appends c.pass_up.ensures.reason

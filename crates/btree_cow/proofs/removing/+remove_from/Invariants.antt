@@ -1,0 +1,4 @@
+use Rattle.btree_cow.proofs.removing.+remove_from.Given as goal
+
+abbrev pub decreases-remove_from : goal.decreases-remove_from
+decreases-remove_from g l = l.left

@@ -1,0 +1,21 @@
+use Rattle.std.proofs.Common.{ap, ◌∙◌}
+use Rattle.node_page.specs.Nodes.{rises}
+use Rattle.btree_cow.proofs.Pairs.{led_rises}
+use Rattle.btree_cow.proofs.Removals.{absent_passed, stored_passed, short_passed}
+use Rattle.btree_cow.proofs.removing.pass_up.Goals as goal
+
+pub returns-in-Absent-clause-passes : goal.returns-in-Absent-clause-passes
+returns-in-Absent-clause-passes g c = λ told is. absent_passed (g.P.Pages.shelf c.args.pages.now) c.args.node.entries.items c.args.place c.args.shrunk c.in-Absent.is
+
+pub settle-requires-clause-rise : goal.settle-requires-clause-rise
+settle-requires-clause-rise g c = ap rises c.lead_to.ensures ∙ led_rises c.args.node.entries.items c.args.place c.in-Stored.block c.requires.rise
+
+pub returns-in-Stored-clause-passes : goal.returns-in-Stored-clause-passes
+returns-in-Stored-clause-passes g c = λ told is.
+    stored_passed (g.P.Pages.shelf c.args.pages.now) (g.P.Pages.shelf c.settle.new.pages) c.settle.result c.args.node.leaf c.args.node.entries.items c.lead_to.new.children.items c.args.place c.in-Stored.block c.args.shrunk
+    (g.met.P.Pages.lie_below told c.args.pages.now) is c.in-Stored.is c.lead_to.ensures (c.settle.ensures.settles told)
+
+pub returns-in_ok-refill-in-Short-clause-passes : goal.returns-in_ok-refill-in-Short-clause-passes
+returns-in_ok-refill-in-Short-clause-passes g c = λ told is.
+    short_passed (g.P.Pages.shelf c.args.pages.now) (g.P.Pages.shelf c.refill.new.pages) (g.P.Pages.shelf c.settle-in-Short.new.pages) c.settle-in-Short.result c.args.node.leaf c.args.node.entries.items c.refill.new.children.items c.args.place
+    c.args.shrunk c.in-Short.short is c.in-Short.is (c.in_ok-refill-in-Short.ensures.refills told) (c.settle-in-Short.ensures.settles told)

@@ -1,0 +1,24 @@
+use Rattle.std.proofs.lemmas.Result.{err_from_is_err_and}
+use Rattle.btree_cow.proofs.Insertions.{root_fails, root_stands}
+use Rattle.btree_cow.proofs.Removals.{short_present, stored_present}
+use Rattle.btree_cow.proofs.removing.remove.Goals as goal
+
+pub returns-in_err-remove_from-clause-stands : goal.returns-in_err-remove_from-clause-stands
+returns-in_err-remove_from-clause-stands g c = λ told ok entries tree.
+    let p = err_from_is_err_and c.from_residual.result c.from_residual.ensures.1 in
+    rw (p.1, p.2)
+    (root_stands g.P.Pages.tells ok c.args.root c.in-Some.at (g.P.Pages.shelf c.args.pages.now) (g.P.Pages.shelf c.remove_from.new.pages) _ _ _ entries told c.in-Some.is tree c.in_err-remove_from.ensures.reason)
+
+pub returns-in_err-remove_from-clause-reason : goal.returns-in_err-remove_from-clause-reason
+returns-in_err-remove_from-clause-reason g c =
+    let p = err_from_is_err_and c.from_residual.result c.from_residual.ensures.1 in
+    rw (p.1, p.2)
+    (root_fails g.P.Pages.tells c.args.root c.in-Some.at (g.P.Pages.shelf c.args.pages.now) (g.P.Pages.shelf c.remove_from.new.pages) _ _ _ c.in-Some.is c.in_err-remove_from.ensures.reason)
+
+pub returns-in-Stored-clause-absent : goal.returns-in-Stored-clause-absent
+returns-in-Stored-clause-absent g c = λ told ok entries tree absent.
+    absurd (stored_present ok (g.P.Pages.shelf c.args.pages.now) (g.P.Pages.shelf c.remove_from.new.pages) c.args.root c.in-Some.at c.args.chunk c.in-Stored.block entries c.in_ok-remove_from.field-0 c.in-Some.is c.in-Stored.is (c.in_ok-remove_from.ensures.removes told) tree absent)
+
+pub returns-in-Short-clause-absent : goal.returns-in-Short-clause-absent
+returns-in-Short-clause-absent g c = λ told ok entries tree absent.
+    absurd (short_present ok (g.P.Pages.shelf c.args.pages.now) (g.P.Pages.shelf c.remove_from.new.pages) c.args.root c.in-Some.at c.args.chunk c.in-Short.node entries c.in_ok-remove_from.field-0 c.in-Some.is c.in-Short.is (c.in_ok-remove_from.ensures.removes told) tree absent)

@@ -1,0 +1,70 @@
+-- What changes make of the entries of a tree, and why one fails.
+use Rattle.std.specs.Prelude.{◌≡◌, ◌⊎◌, ℕ, ◌≤◌, Bool, true, ◌&&◌, not, ◌==◌, List, [], ◌∷◌, filter, nat_lt, Option, Some, None, IsTrue, if◌then◌else◌}
+use Rattle.std.specs.List.{list_all}
+use Rattle.std.specs.Option.{option_map_or}
+use Rattle.block_host.specs.Disk.{risen}
+use Rattle.forest_model.specs.declared.refusal.Refusal.{Refusal}
+use Rattle.node_page.specs.Nodes.{Entry}
+use Rattle.btree_cow.specs.Shelf.{Shelf, Later}
+use Rattle.btree_cow.specs.Causes.{BreaksFrom, is_full}
+
+-- with a value for a chunk, in place of an older one
+abbrev pub with_entry : List Entry → ℕ → ℕ → List Entry
+with_entry [] chunk value = (chunk, value) ∷ []
+with_entry (e ∷ later) chunk value =
+    if nat_lt chunk e.0 then (chunk, value) ∷ e ∷ later
+    else (if e.0 == chunk then (chunk, value) ∷ later else e ∷ with_entry later chunk value)
+
+-- without a chunk
+abbrev pub without_entry : List Entry → ℕ → List Entry
+without_entry entries chunk = filter (λ (e : Entry). not (e.0 == chunk)) entries
+
+-- a change of a chunk: a value for it, or none
+abbrev pub Change : Type 0
+Change = ℕ × Option ℕ
+
+abbrev pub after_change : List Entry → Change → List Entry
+after_change entries (chunk, Some value) = with_entry entries chunk value
+after_change entries (chunk, None) = without_entry entries chunk
+
+abbrev pub after_changes : List Entry → List Change → List Entry
+after_changes entries [] = entries
+after_changes entries (c ∷ changes) = after_changes (after_change entries c) changes
+
+-- what is well for a leaf in one block is well for a leaf in a later one
+abbrev pub StaysWell : (ℕ → ℕ → Bool) → Type 0
+StaysWell ok = (at later value : ℕ) → at ≤ later → IsTrue (ok at value) → IsTrue (ok later value)
+
+-- the numbers of a file to which blocks were added at most
+pub record SameLimits (old new : Shelf) : Type 0 where
+  pub file : new.file ≡ old.file
+  pub used : old.used ≤ new.used
+  pub most : new.most ≡ old.most
+  pub max : new.max ≡ old.max
+
+-- The reasons not to change a tree: a count of faults that rose, no room for a block more, or a block that breaks the tree.
+abbrev pub ChangeFails : Bool → Shelf → Shelf → Option ℕ → ℕ → ℕ → Refusal → Type 0
+ChangeFails tells old new root before after why =
+    ((why ≡ Refusal.DiskFault) × (risen before ≤ after))
+    ⊎ ((why ≡ is_full new) × (new.most ≤ new.used))
+    ⊎ ((block : ℕ) × (why ≡ Refusal.Damaged old.file block) × (IsTrue tells → BreaksFrom old root block))
+
+-- the chunks of changes strictly rise
+abbrev pub changes_rise : List Change → Bool
+changes_rise [] = true
+changes_rise (c ∷ later) = list_all (λ (other : Change). nat_lt c.0 other.0) later && changes_rise later
+
+-- the value that a change puts, if any, is well for a leaf in a block
+abbrev pub is_well : (ℕ → ℕ → Bool) → ℕ → Change → Bool
+is_well ok at c = option_map_or (λ (value : ℕ). ok at value) c.1 true
+
+abbrev pub put_well : (ℕ → ℕ → Bool) → ℕ → List Change → Bool
+put_well ok at changes = list_all (is_well ok at) changes
+
+-- The reasons not to make changes: a count of faults that rose, no room for a block more, or a block that breaks the tree
+-- of some root in a file to which nodes were added.
+abbrev pub ApplyFails : Bool → Shelf → Shelf → ℕ → ℕ → Refusal → Type 0
+ApplyFails tells old new before after why =
+    ((why ≡ Refusal.DiskFault) × (risen before ≤ after))
+    ⊎ ((why ≡ is_full new) × (new.most ≤ new.used))
+    ⊎ ((block : ℕ) × (why ≡ Refusal.Damaged old.file block) × (IsTrue tells → (s : Shelf) × (root : Option ℕ) × Later old s × BreaksFrom s root block))

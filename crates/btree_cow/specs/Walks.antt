@@ -1,0 +1,49 @@
+-- What a walk down a tree finds on its way.
+use Rattle.std.specs.Prelude.{◌≡◌, ◌⊎◌, ℕ, ◌-◌, ◌^◌, ◌≤◌, Bool, true, false, not, List, [], ◌∷◌, ◌++◌, length, take, drop, nat_lt, Option, Some, None, IsTrue, if◌then◌else◌}
+use Rattle.std.specs.List.{list_all}
+use Rattle.std.specs.Option.{option_or}
+use Rattle.node_page.specs.Nodes.{Entry}
+use Rattle.btree_cow.specs.Trees.{is_past, nearest}
+
+-- an entry that a search upwards comes to, or that one downwards never comes to
+abbrev pub is_late : Bool → Bool → ℕ → Entry → Bool
+is_late with up q e = if up then is_past with up q e.0 else not (is_past with up q e.0)
+
+-- the count of entries before the first late one
+pub record IsRank (late : Entry → Bool) (entries : List Entry) (n : ℕ) : Type 0 where
+  pub within : n ≤ length entries
+  pub early : IsTrue (list_all (λ (e : Entry). not (late e)) (take n entries))
+  pub behind : IsTrue (list_all late (drop n entries))
+
+-- the child behind those before, or before those behind
+abbrev pub IsSibling : Bool → List Entry → List Entry → Option ℕ → Type 0
+IsSibling true before after None = after ≡ []
+IsSibling false before after None = before ≡ []
+IsSibling true before after (Some s) = (x : Entry) × (later : List Entry) × (after ≡ x ∷ later) × (x.1 ≡ s)
+IsSibling false before after (Some s) = (front : List Entry) × (x : Entry) × (before ≡ front ++ x ∷ []) × (x.1 ≡ s)
+
+-- the child in which a chunk can lie, and the one where the search goes on
+pub record IsChoice (up : Bool) (q : ℕ) (children : List Entry) (child : ℕ) (sibling : Option ℕ) : Type 0 where
+  pub before : List Entry
+  pub chosen : Entry
+  pub after : List Entry
+  pub split : children ≡ before ++ chosen ∷ after
+  pub child_is : chosen.1 ≡ child
+  pub upto : (chosen.0 ≤ q) ⊎ ((up ≡ true) × (before ≡ []))
+  pub past : IsTrue (list_all (λ (e : Entry). nat_lt q e.0) after)
+  pub sibling_is : IsSibling up before after sibling
+
+-- the chunk from which a search comes to every entry
+abbrev pub edge : Bool → ℕ
+edge up = if up then 0 else 2 ^ 64 - 1
+
+-- the first entry that a search comes to at all
+abbrev pub first_of : Bool → List Entry → Option Entry
+first_of up entries = nearest true up entries (edge up)
+
+-- what a search in entries comes to first: an entry of some of them, else the first one of the sibling's
+abbrev pub GoesOn : (ℕ → ℕ → Option ℕ → List Entry → Type 0) → Bool → Bool → ℕ → List Entry → List Entry → Option ℕ → Type 0
+GoesOn Stands with up q entries first None = nearest with up entries q ≡ nearest with up first q
+GoesOn Stands with up q entries first (Some sibling) =
+    (low : ℕ) × (high : Option ℕ) × (others : List Entry) × Stands sibling low high others
+    × (nearest with up entries q ≡ option_or (nearest with up first q) (first_of up others))

@@ -1,0 +1,72 @@
+ghost use Rattle.std.specs.Prelude.{◌≡◌, ◌⊎◌, ◌≤◌, ℕ, Bool, List, IsTrue, Some, IfOk, IfErr, OnOk};
+ghost use Rattle.forest_model.specs.declared.refusal.Refusal.TheVariants as Refusal;
+ghost use Rattle.node_page.specs.Nodes.{Entry};
+ghost use Rattle.btree_cow.specs.Shelf.{Later};
+ghost use Rattle.btree_cow.specs.Trees.{Tree};
+ghost use Rattle.btree_cow.specs.Causes.{is_full};
+ghost use Rattle.btree_cow.specs.Changes.{with_entry, StaysWell, SameLimits, ChangeFails};
+ghost use Rattle.btree_cow.specs.Growing.{Appends, IsApart, PutFails, Puts};
+
+use crate::Appender;
+use crate::grown::Grown;
+use crate::overfull::{child_for, put_entry, replace_child};
+use crate::storing::{add_node, read_node, store};
+use forest_model::Refusal;
+
+/// The most links that lead down a tree.
+const MOST_LINKS: u8 = 9;
+
+// Puts a value for a chunk into the tree in a block, going down so many links at most.
+fn put<P: Appender>(
+    pages: &mut P,
+    at: u64,
+    left: u8,
+    chunk: u64,
+    value: u64,
+) -> Result<Grown, Refusal>
+    ensures puts { IsTrue P.tells → IfOk result (Puts at chunk value (P.shelf pages.old) (P.shelf pages.new)) }
+    ensures apart { IfOk result IsApart }
+    ensures reason { IfErr result (PutFails P.tells left at (P.shelf pages.old) (P.shelf pages.new) (P.faults pages.old) (P.faults pages.new)) }
+    ensures appends { Appends P.tells (P.shelf pages.old) (P.shelf pages.new) (P.faults pages.old) (P.faults pages.new) }
+    ensures untroubled { OnOk result (P.faults pages.new ≡ P.faults pages.old) }
+{
+    let mut node = read_node(pages, at)?;
+    if node.leaf {
+        put_entry(&mut node.entries, chunk, value);
+        return store(pages, true, node.entries.as_slice());
+    }
+    let Some((place, child)) = child_for(node.entries.as_slice(), at, left, chunk) else {
+        return Err(Refusal::Damaged {
+            file: pages.file(),
+            block: at,
+        });
+    };
+    let grown = put(pages, child, left - 1, chunk, value)?;
+    replace_child(&mut node.entries, place, chunk, grown);
+    store(pages, false, node.entries.as_slice())
+}
+
+/// Puts a value for a chunk, in place of an older one, and answers the new root. New nodes are appended, and no old one
+/// changes.
+pub fn insert<P: Appender>(
+    pages: &mut P,
+    root: Option<u64>,
+    chunk: u64,
+    value: u64,
+) -> Result<u64, Refusal>
+    ensures inserted { IsTrue P.tells → (ok : ℕ → ℕ → Bool) (entries : List Entry) → StaysWell ok → IsTrue (ok (P.shelf pages.old).used value) → Tree ok (P.shelf pages.old) root entries → IfOk result (λ at. Tree ok (P.shelf pages.new) (Some at) (with_entry entries chunk value)) }
+    ensures stands { IsTrue P.tells → (ok : ℕ → ℕ → Bool) (entries : List Entry) → Tree ok (P.shelf pages.old) root entries → IfErr result (λ why. (why ≡ Refusal.DiskFault) ⊎ (why ≡ is_full (P.shelf pages.new))) }
+    ensures reason { IfErr result (ChangeFails P.tells (P.shelf pages.old) (P.shelf pages.new) root (P.faults pages.old) (P.faults pages.new)) }
+    ensures later { IsTrue P.tells → Later (P.shelf pages.old) (P.shelf pages.new) }
+    ensures limits { SameLimits (P.shelf pages.old) (P.shelf pages.new) }
+    ensures counts { P.faults pages.old ≤ P.faults pages.new }
+    ensures untroubled { OnOk result (P.faults pages.new ≡ P.faults pages.old) }
+{
+    let Some(at) = root else {
+        return add_node(pages, true, &[(chunk, value)]);
+    };
+    match put(pages, at, MOST_LINKS, chunk, value)? {
+        Grown::One(block) => Ok(block),
+        Grown::Two(left, right) => add_node(pages, false, &[left, right]),
+    }
+}

@@ -1,0 +1,35 @@
+//! B+-trees from numbers of 64 bits to numbers of 64 bits, whose nodes are blocks of a file that is only appended to
+//! (`docs/FORMAT.md`, nodes). A change appends new nodes and touches no old one.
+//!
+//! It promises that a look-up in blocks that stand for a list of entries answers from this list, and that on any
+//! other blocks it ends after at most twice ten pages, naming the block that is wrong. An insert promises a new root
+//! that stands for the entries with the value for the chunk, and every node that it adds has at least 126 entries or
+//! is the root. A removal promises the same without the chunk, and no root where no entry is left. A run of changes
+//! promises what they make of the entries in their order.
+#![tactic(auto)]
+
+mod applying;
+mod grown;
+mod inserting;
+mod joined;
+mod look_up;
+mod node_search;
+mod overfull;
+mod pages;
+mod removing;
+mod shrunk;
+mod storing;
+mod walk;
+
+pub use applying::apply;
+pub use inserting::insert;
+pub use look_up::{find, next};
+pub use pages::{Appender, Docs, Pages};
+pub use removing::remove;
+
+#[cfg(test)]
+mod insert_tests;
+#[cfg(test)]
+mod remove_tests;
+#[cfg(test)]
+mod tests;
