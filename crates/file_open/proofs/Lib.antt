@@ -1,0 +1,2 @@
+mod NewState
+mod NewFile
