@@ -9,3 +9,7 @@ pub mod Numbered
 pub mod Lookups
 pub mod Standing
 pub mod Answering
+pub mod PutRecord
+pub mod StoreTables
+pub mod StoreCauses
+pub mod StoreMade
