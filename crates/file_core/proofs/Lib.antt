@@ -13,3 +13,7 @@ pub mod PutRecord
 pub mod StoreTables
 pub mod StoreCauses
 pub mod StoreMade
+pub mod StoreSums
+pub mod StoreLeft
+pub mod StoreLess
+pub mod StoreGone

@@ -104,7 +104,7 @@ none_mapped : (o : Option Store) → option_map (λ st. st.id) o ≡ None → o 
 none_mapped None e = refl
 none_mapped (Some st) e = absurd (none-some st.id (sym e))
 
-some_mapped : (o : Option Store) (id : ℕ) → option_map (λ st. st.id) o ≡ Some id → (st : Store) × (o ≡ Some st) × (st.id ≡ id)
+pub some_mapped : (o : Option Store) (id : ℕ) → option_map (λ st. st.id) o ≡ Some id → (st : Store) × (o ≡ Some st) × (st.id ≡ id)
 some_mapped None id e = absurd (none-some id e)
 some_mapped (Some st) id e = (st, refl, same_Some st.id id e)
 

@@ -1,5 +1,7 @@
 -- Why a store isn't opened or removed, and what is left in memory, by what an open file has there.
-use Rattle.std.specs.Prelude.{◌≡◌, ◌⊎◌, ℕ, ◌+◌, ◌<◌, ◌≤◌, ◌^◌, Bool, false, ◌&&◌, not, IsTrue, List, [], ◌∷◌, ◌++◌, length, Option, Some, None, is_none, nat_le, MatchOption, MatchResult, Result, Ok, Err, if◌then◌else◌}
+use Rattle.std.specs.Prelude.{◌≡◌, ◌⊎◌, ℕ, ◌+◌, ◌<◌, ◌≤◌, ◌^◌, Bool, false, ◌&&◌, not, ◌||◌, ◌==◌, ◌-◌, min, sum_by, codes, nat_eq, IsTrue, List, [], ◌∷◌, ◌++◌, length, Option, Some, None, is_none, nat_le, MatchOption, MatchResult, Result, Ok, Err, if◌then◌else◌}
+use Rattle.std.specs.Cmp.Lexicographic.{pointwise}
+use Rattle.std.specs.FinMap as finite
 use Rattle.std.specs.Option.{option_map, option_map_or}
 use Rattle.block_host.specs.Disk.{risen}
 use Rattle.block_host.specs.declared.block.Block.{Block}
@@ -9,16 +11,23 @@ use Rattle.forest_model.specs.Limits.{is_name, any_worn}
 use Rattle.forest_model.specs.Step.{◌where_holds◌, first_cause}
 use Rattle.forest_model.specs.declared.call.StoreRef.{StoreRef}
 use Rattle.forest_model.specs.declared.refusal.Refusal.{Refusal}
-use Rattle.forest_model.specs.declared.refusal.Refusal.TheVariants.{NameForm, NoStore, Worn, StoreCount, NoMemory, DiskFault}
+use Rattle.forest_model.specs.declared.refusal.Refusal.TheVariants.{ReadOnly, NameForm, NoStore, Worn, StoreCount, NoMemory, DiskFault}
+use Rattle.forest_model.specs.declared.stored.KeyEntry.{KeyEntry}
 use Rattle.forest_model.specs.declared.stored.Rec.{Rec}
-use Rattle.kvs_names.specs.Table.{Table, row_named, with_new}
+use Rattle.kvs_names.specs.Answers.{remove_causes as why_not_removed}
+use Rattle.kvs_names.specs.Table.{Table, row_named, with_new, without}
+use Rattle.wal_index.specs.Index.{Map as Entries, in_order}
 use Rattle.file_core.specs.Held.{Held}
-use Rattle.file_core.specs.Setting.{blocks_needed, full_cause, OnlyMemory}
+use Rattle.file_core.specs.Setting.{blocks_needed, full_cause, live_len, OnlyMemory}
 use Rattle.file_core.specs.Updates.{Moment}
 
 -- the record that makes a store
 abbrev pub new_of : ℕ → List ℕ → Rec
 new_of id name = record { kind = 3; store = id; seq = 0; key = name; meta = []; body = [] }
+
+-- the record that removes one
+abbrev pub gone_of : ℕ → Rec
+gone_of id = record { kind = 4; store = id; seq = 0; key = []; meta = []; body = [] }
 
 -- What a record that is put leaves: its bytes are behind those of the open block, and the full blocks at the file's end.
 pub record PutsRecord (told : Bool) (r : Rec) (old new : Moment) : Type 0 where
@@ -73,4 +82,49 @@ OpenGives told name read_only old new (Some id) result = (result ≡ Ok (record 
 abbrev pub OpenAnswers : Bool → List ℕ → Bool → Moment → Moment → Result StoreRef Refusal → Type 0
 OpenAnswers told name read_only old new result = MatchOption (first_cause (open_causes old.held name read_only))
     (OpenGives told name read_only old new (id_named old.held.names name) result)
+    (λ why. (result ≡ Err why) × OnlyMemory old new)
+
+-- ---- a store is removed
+
+-- why a store isn't removed, in the order of refusals
+abbrev pub remove_causes : Held → StoreRef → List ℕ → List (Option Refusal)
+remove_causes p at name =
+    (ReadOnly where_holds at.read_only) ∷ (NameForm where_holds (not (is_name name) || pointwise nat_eq name (codes "default")))
+    ∷ (NoStore where_holds is_none (id_named p.names name)) ∷ (Worn where_holds any_worn ((p.place + 1) ∷ []))
+    ∷ full_cause p (blocks_needed p [] [] []) ∷ []
+
+-- the bytes of an entry's live record, where it is of a store
+abbrev pub own_len : ℕ → KeyEntry → ℕ
+own_len id e = if e.store == id then live_len (Some e.entry) else 0
+
+-- the bytes of the live records of a store
+abbrev pub own_live : ℕ → Entries → ℕ
+own_live id entries = sum_by (own_len id) (in_order entries)
+
+-- what the removal of a store leaves
+pub record RemovesStore (told : Bool) (id : ℕ) (old new : Moment) : Type 0 where
+  pub puts : PutsRecord told (gone_of id) old new
+  pub entries : new.held.wal.entries ≡ finite.retain_keys old.held.wal.entries (λ k. not (k.store == id))
+  pub names : first_cause (why_not_removed old.held.names id) ≡ None → new.held.names ≡ without old.held.names id
+  pub rest : new.held ≡ record old.held {
+    blocks = new.held.tail.number;
+    names = new.held.names;
+    wal = new.held.wal;
+    tail = new.held.tail;
+    loose = length new.held.tail.bytes;
+    live = old.held.live - min (own_live id old.held.wal.entries) (2 ^ 64 - 1);
+    place = old.held.place + 1;
+  }
+
+abbrev pub UnmakeGives : Bool → ℕ → Moment → Moment → Result ℕ Refusal → Type 0
+UnmakeGives told id old new result = MatchResult result (λ gone. (gone ≡ id) × RemovesStore told id old new) (NotPut old new)
+
+-- what the removal gives that has no cause to be refused
+abbrev pub RemoveGives : Bool → List ℕ → Moment → Moment → Result ℕ Refusal → Type 0
+RemoveGives told name old new result =
+    MatchResult result (λ id. (id_named old.held.names name ≡ Some id) × RemovesStore told id old new) (NotPut old new)
+
+abbrev pub RemoveAnswers : Bool → StoreRef → List ℕ → Moment → Moment → Result ℕ Refusal → Type 0
+RemoveAnswers told at name old new result = MatchOption (first_cause (remove_causes old.held at name))
+    (RemoveGives told name old new result)
     (λ why. (result ≡ Err why) × OnlyMemory old new)
