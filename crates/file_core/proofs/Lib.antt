@@ -9,3 +9,11 @@ pub mod Numbered
 pub mod Lookups
 pub mod Standing
 pub mod Answering
+pub mod PutRecord
+pub mod StoreTables
+pub mod StoreCauses
+pub mod StoreMade
+pub mod StoreSums
+pub mod StoreLeft
+pub mod StoreLess
+pub mod StoreGone

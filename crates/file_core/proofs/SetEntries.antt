@@ -30,7 +30,7 @@ module _ (told : Bool) (revision : ℕ) (file file' : List Block) (tail tail' : 
   kept_more : (k : DocKey) (e : Entry) (d : Doc) → IsKept told revision file tail k e d → IsKept told revision file' tail' k e d
   kept_more k e d h = record { seq = h.seq; len = h.len; there = λ t. keeps t e.address (put_of k d) (h.there t) }
 
-  has_more : (k : DocKey) (oe : Option Entry) (od : Option Doc) → HasDocument told revision file tail k oe od → HasDocument told revision file' tail' k oe od
+  pub has_more : (k : DocKey) (oe : Option Entry) (od : Option Doc) → HasDocument told revision file tail k oe od → HasDocument told revision file' tail' k oe od
   has_more k None od h = h
   has_more k (Some e) od h = by e.live h where
     by : (b : Bool) → MatchBool b ((d : Doc) × (od ≡ Some d) × IsKept told revision file tail k e d) (od ≡ None) → MatchBool b ((d : Doc) × (od ≡ Some d) × IsKept told revision file' tail' k e d) (od ≡ None)

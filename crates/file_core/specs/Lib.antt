@@ -4,3 +4,4 @@ pub mod Reads
 pub mod Lookup
 pub mod Updates
 pub mod Setting
+pub mod StoreChanges

@@ -8,6 +8,7 @@ mod parts;
 mod reads;
 mod setting;
 mod state;
+mod stores;
 mod writes;
 
 pub use parts::Parts;
