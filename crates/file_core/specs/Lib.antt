@@ -4,3 +4,5 @@ pub mod Reads
 pub mod Lookup
 pub mod Updates
 pub mod Setting
+pub mod Writing
+pub mod Deleting

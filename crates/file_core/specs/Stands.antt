@@ -83,7 +83,6 @@ pub record Stands (told : Bool) (p : Held) (disk : Disk) (file : List Block) (s 
   pub next_commit : p.next_commit ≡ s.next_commit
   pub next_ticket : p.next_ticket ≡ s.next_ticket
   pub limits : p.limits ≡ s.limits
-  pub most : s.limits.max_blocks ≤ 2 ^ 32
   pub copying : p.copying ≡ option_map (λ c. (c.ticket, c.base)) s.copying
   -- the open block behind the blocks of the file, of which two more are kept where something is new
   pub loose : p.loose ≡ s.loose

@@ -57,16 +57,16 @@ Troubled old new = (risen old.host_faults ≤ new.host_faults) ⊎ (risen old.vi
 -- state too, or a count of faults rose.
 pub record UpdatesAs {T : Type 0} (told : Bool) (reply : T → Reply) (s : State) (f : File) (call : Call) (old new : Moment) (result : Result T Refusal) : Type 0 where
   pub done : IfOk result (λ value. ((step_of s f call).0 ≡ reply value) × StandsAt told new (step_of s f call).1
-    × ((grown : File) × FileAfter s f (Some call) (step_of s f call).1 grown × IsFile told new.held new.file grown))
+      × ((grown : File) × FileAfter s f (Some call) (step_of s f call).1 grown × IsFile told new.held new.file grown))
   pub refused : (why : Refusal) → (step_of s f call).0 ≡ Refused why → result ≡ Err why
   pub reason : IfErr result (λ why. (((step_of s f call).0 ≡ Refused why) × StandsAt told new s × IsFile told new.held new.file f)
-    ⊎ ((why ≡ Refusal.NoMemory) × StandsAt told new s × IsFile told new.held new.file f)
-    ⊎ ((why ≡ Refusal.DiskFault) × Troubled old new))
+      ⊎ ((why ≡ Refusal.NoMemory) × StandsAt told new s × IsFile told new.held new.file f)
+      ⊎ ((why ≡ Refusal.DiskFault) × Troubled old new))
 
 -- A commit is the same, but memory is never refused.
 pub record CommitsAs (told : Bool) (s : State) (f : File) (at : StoreRef) (old new : Moment) (result : Result ℕ Refusal) : Type 0 where
   pub done : IfOk result (λ number. ((step_of s f (calls.Commit at)).0 ≡ Committed number) × StandsAt told new (step_of s f (calls.Commit at)).1
-    × ((grown : File) × FileAfter s f (Some (calls.Commit at)) (step_of s f (calls.Commit at)).1 grown × IsFile told new.held new.file grown))
+      × ((grown : File) × FileAfter s f (Some (calls.Commit at)) (step_of s f (calls.Commit at)).1 grown × IsFile told new.held new.file grown))
   pub refused : (why : Refusal) → (step_of s f (calls.Commit at)).0 ≡ Refused why → result ≡ Err why
   pub reason : IfErr result (λ why. (((step_of s f (calls.Commit at)).0 ≡ Refused why) × StandsAt told new s × IsFile told new.held new.file f)
-    ⊎ ((why ≡ Refusal.DiskFault) × Troubled old new))
+      ⊎ ((why ≡ Refusal.DiskFault) × Troubled old new))
