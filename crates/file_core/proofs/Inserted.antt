@@ -25,7 +25,7 @@ exact_keys a b h =
 pub keys_total : IsTotalOrder key_cmp
 keys_total = then_total (on_total (λ k. k.store) nat_cmp_total) (on_total (λ k. k.key) nat_list_cmp_total)
 
-same_key : (a b : DocKey) → eq_by_cmp key_cmp a b ≡ true → a ≡ b
+pub same_key : (a b : DocKey) → eq_by_cmp key_cmp a b ≡ true → a ≡ b
 same_key a b h = exact_keys a b ((Equal-is (key_cmp a b)).0 h)
 
 pub same_or_other : (a b : DocKey) → (a ≡ b) ⊎ (a ≢ b)

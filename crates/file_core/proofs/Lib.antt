@@ -5,6 +5,10 @@ pub mod SetEntries
 pub mod SetBlocks
 pub mod SetStands
 pub mod SetDone
+pub mod Removed
+pub mod Written
+pub mod Deleted
+pub mod DeleteDone
 pub mod Numbered
 pub mod Lookups
 pub mod Standing

@@ -55,7 +55,7 @@ counted_is : (od : Option Doc) (b : Bool) (n c c' : ℕ) → b ≡ is_some od �
 counted_is None b n c c' lives same small more = ap (λ (t : Bool). if t then n else min (n + 1) (2 ^ 64 - 1)) lives ∙ omega (arith, same, small, more)
 counted_is (Some d) b n c c' lives same small more = ap (λ (t : Bool). if t then n else min (n + 1) (2 ^ 64 - 1)) lives ∙ omega (arith, same, more)
 
-there_is : (o : Option Store) → is_none o ≡ false → (st : Store) × (o ≡ Some st)
+pub there_is : (o : Option Store) → is_none o ≡ false → (st : Store) × (o ≡ Some st)
 there_is None e = absurd (none-some {A = ℕ} 0 (cc))
 there_is (Some st) e = (st, refl)
 
@@ -242,7 +242,7 @@ kept_file told old new f was same = subst (λ (h : Held). IsFile told h new.file
   from = was.from;
 })
 
-no_refusal : (seq : ℕ) (why : Refusal) → replies.Seq seq ≢ replies.Refused why
+pub no_refusal : (seq : ℕ) (why : Refusal) → replies.Seq seq ≢ replies.Refused why
 no_refusal seq why e = cc
 
 pub same_refusal : (why other : Refusal) → replies.Refused why ≡ replies.Refused other → why ≡ other

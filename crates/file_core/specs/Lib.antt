@@ -5,3 +5,5 @@ pub mod Lookup
 pub mod Updates
 pub mod Setting
 pub mod StoreChanges
+pub mod Writing
+pub mod Deleting
