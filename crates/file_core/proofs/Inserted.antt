@@ -25,7 +25,7 @@ exact_keys a b h =
 pub keys_total : IsTotalOrder key_cmp
 keys_total = then_total (on_total (λ k. k.store) nat_cmp_total) (on_total (λ k. k.key) nat_list_cmp_total)
 
-same_key : (a b : DocKey) → eq_by_cmp key_cmp a b ≡ true → a ≡ b
+pub same_key : (a b : DocKey) → eq_by_cmp key_cmp a b ≡ true → a ≡ b
 same_key a b h = exact_keys a b ((Equal-is (key_cmp a b)).0 h)
 
 pub same_or_other : (a b : DocKey) → (a ≡ b) ⊎ (a ≢ b)
@@ -34,16 +34,16 @@ same_or_other a b = by (eq_by_cmp key_cmp a b) refl where
   by true e = inl (same_key a b e)
   by false e = inr (λ same. false≢true (sym e ∙ ap (λ (x : DocKey). eq_by_cmp key_cmp a x) (sym same) ∙ (eq_by_cmp_equiv keys_total).refl a))
 
-both : (a b : Bool) → IsTrue (a && b) → IsTrue a × IsTrue b
+pub both : (a b : Bool) → IsTrue (a && b) → IsTrue a × IsTrue b
 both true b t = (refl, t)
 both false b t = absurd (false≢true t)
 
-less : (o : Ordering) → IsTrue (is_lt o) → o ≡ Less
+pub less : (o : Ordering) → IsTrue (is_lt o) → o ≡ Less
 less Less t = refl
 less Equal t = absurd (false≢true t)
 less Greater t = absurd (false≢true t)
 
-is_true : (b : Bool) → T b → IsTrue b
+pub is_true : (b : Bool) → T b → IsTrue b
 is_true true t = refl
 is_true false t = absurd t
 
@@ -56,14 +56,14 @@ module _ {X : Type 0} where
       finite.get-insert keys_total m k x q ∙ ap (λ b. cond b (Some x) (finite.get m q)) (false_from_ne_true (eq_by_cmp key_cmp q k) (λ e. n (same_key q k e)))
 
   -- a key below all others isn't among them
-  none_below : (k : DocKey) (es : List (DocKey × X)) → IsTrue (below_all key_cmp k es) → finite.find key_cmp k es ≡ None
+  pub none_below : (k : DocKey) (es : List (DocKey × X)) → IsTrue (below_all key_cmp k es) → finite.find key_cmp k es ≡ None
   none_below k [] below = refl
   none_below k (e ∷ es) below =
       let here = both (is_lt (key_cmp k e.0)) _ below in
       ap (λ o. cond (is_eq o) (Some e.1) (finite.find key_cmp k es)) (less (key_cmp k e.0) here.0) ∙ none_below k es here.1
 
   -- a key below another is below all that lie above that one
-  below_less : (x y : DocKey) (es : List (DocKey × X)) → key_cmp x y ≡ Less → IsTrue (below_all key_cmp y es) → IsTrue (below_all key_cmp x es)
+  pub below_less : (x y : DocKey) (es : List (DocKey × X)) → key_cmp x y ≡ Less → IsTrue (below_all key_cmp y es) → IsTrue (below_all key_cmp x es)
   below_less x y [] is below = refl
   below_less x y (e ∷ es) is below =
       let here = both (is_lt (key_cmp y e.0)) _ below in

@@ -46,7 +46,7 @@ module _ {K X : Type 0} {R : K → K → Ordering} (o : IsTotalOrder R) where
       ap (λ r. cond (is_eq r) (Some e.1) (finite.find R k es)) (less (R k e.0) (first _ _ below)) ∙ none_above k es (second _ _ below)
 
   -- an entry is what a look-up of its key finds
-  is_found : (p : K × X → Bool) (es : List (K × X)) (e : K × X) → T (finite.is_sorted R es) → find p es ≡ Some e → finite.find R e.0 es ≡ Some e.1
+  pub is_found : (p : K × X → Bool) (es : List (K × X)) (e : K × X) → T (finite.is_sorted R es) → find p es ≡ Some e → finite.find R e.0 es ≡ Some e.1
   is_found p [] e sorted is = cc
   is_found p (f ∷ fs) e sorted is =
       elim (p f) as (λ b. cond b (Some f) (find p fs) ≡ Some e → cond (is_eq (R e.0 f.0)) (Some f.1) (finite.find R e.0 fs) ≡ Some e.1) [

@@ -76,7 +76,7 @@ module _ (told : Bool) (p : Held) (disk : Disk) (file : List Block) (s : State) 
   documents_is st found =
       ap (λ o. option_map_or (λ r. r.documents) o 0) (row_is ∙ ap (option_map (row_in s.documents)) found) ∙ ap (count_of s.documents) (found_id s.stores at.store st found)
 
-  needed_is : blocks_needed p key meta body ≡ (s.loose + record_length key meta body) / 4064
+  pub needed_is : blocks_needed p key meta body ≡ (s.loose + record_length key meta body) / 4064
   needed_is = ap (λ n. (n + record_length key meta body) / 4064) stands.open_block
 
   causes_are : set_causes p at key meta body ≡ causes s (calls.Set at key meta body) ++ full s f (calls.Set at key meta body) ∷ []

@@ -30,7 +30,7 @@ module _ (told : Bool) (revision : ℕ) (file file' : List Block) (tail tail' : 
   kept_more : (k : DocKey) (e : Entry) (d : Doc) → IsKept told revision file tail k e d → IsKept told revision file' tail' k e d
   kept_more k e d h = record { seq = h.seq; len = h.len; there = λ t. keeps t e.address (put_of k d) (h.there t) }
 
-  has_more : (k : DocKey) (oe : Option Entry) (od : Option Doc) → HasDocument told revision file tail k oe od → HasDocument told revision file' tail' k oe od
+  pub has_more : (k : DocKey) (oe : Option Entry) (od : Option Doc) → HasDocument told revision file tail k oe od → HasDocument told revision file' tail' k oe od
   has_more k None od h = h
   has_more k (Some e) od h = by e.live h where
     by : (b : Bool) → MatchBool b ((d : Doc) × (od ≡ Some d) × IsKept told revision file tail k e d) (od ≡ None) → MatchBool b ((d : Doc) × (od ≡ Some d) × IsKept told revision file' tail' k e d) (od ≡ None)
@@ -122,16 +122,15 @@ numbers_set entries stores id key st e old found next = record { drawn = drawn; 
 abbrev Goes : Map → Map → Store → Store → Type 0
 Goes documents last before now = (before.seq ≤ now.seq) × (before.seq ≡ now.seq → (q : List ℕ) → doc_at documents now.id q ≡ doc_at last now.id q)
 
-pub unchanged_set : (s : State) (id seq : ℕ) (key : List ℕ) (st : Store) (d : Doc) → SameAtSameNumber s → store_of s.stores id ≡ Some st → st.seq < seq → (before now : Store)
-    → store_of s.last.stores now.id ≡ Some before → store_of (with_seq s.stores id seq) now.id ≡ Some now
-    → Goes (finite.insert s.documents (key_at id key) d) s.last.documents before now
-unchanged_set s id seq key st d same found more before now was is = by (store_of s.stores now.id) refl (sym (store_of-with_seq s.stores id seq now.id) ∙ is) where
+pub unchanged_by : (s : State) (id seq : ℕ) (st : Store) (m : Map) → ((q : DocKey) → q.store ≢ id → finite.get m q ≡ finite.get s.documents q) → SameAtSameNumber s → store_of s.stores id ≡ Some st → st.seq < seq
+    → (before now : Store) → store_of s.last.stores now.id ≡ Some before → store_of (with_seq s.stores id seq) now.id ≡ Some now → Goes m s.last.documents before now
+unchanged_by s id seq st m others same found more before now was is = by (store_of s.stores now.id) refl (sym (store_of-with_seq s.stores id seq now.id) ∙ is) where
   old_store : (t : Store) → store_of s.stores now.id ≡ Some t → Goes s.documents s.last.documents before t
   old_store t e =
       let id_is : t.id ≡ now.id = found_id s.stores now.id t e in
       same before t (ap (store_of s.last.stores) id_is ∙ was) (ap (store_of s.stores) id_is ∙ e)
 
-  at : (t : Store) → store_of s.stores now.id ≡ Some t → (b : Bool) → (t.id == id) ≡ b → Goes (finite.insert s.documents (key_at id key) d) s.last.documents before (cond b (record t { seq = seq }) t)
+  at : (t : Store) → store_of s.stores now.id ≡ Some t → (b : Bool) → (t.id == id) ≡ b → Goes m s.last.documents before (cond b (record t { seq = seq }) t)
   at t e true is_own =
       let own : now.id ≡ id = sym (found_id s.stores now.id t e) ∙ eqb-true t.id id is_own in
       let this : st ≡ t = same_Some st t (sym found ∙ ap (store_of s.stores) (sym own) ∙ e) in
@@ -140,8 +139,14 @@ unchanged_set s id seq key st d same found more before now was is = by (store_of
       (omega arith, λ no. absurd (omega arith))
   at t e false is_other =
       let h = old_store t e in
-      (h.0, λ level q. got_other s.documents (key_at id key) (key_at t.id q) d (λ own. false≢true (sym is_other ∙ eq-eqb t.id id (ap (λ (x : DocKey). x.store) own))) ∙ h.1 level q)
+      (h.0, λ level q. others (key_at t.id q) (λ own. false≢true (sym is_other ∙ eq-eqb t.id id own)) ∙ h.1 level q)
 
-  by : (o : Option Store) → store_of s.stores now.id ≡ o → option_map (at_seq id seq) o ≡ Some now → Goes (finite.insert s.documents (key_at id key) d) s.last.documents before now
+  by : (o : Option Store) → store_of s.stores now.id ≡ o → option_map (at_seq id seq) o ≡ Some now → Goes m s.last.documents before now
   by None e is = absurd (none-some now is)
-  by (Some t) e is = subst (λ (n : Store). Goes (finite.insert s.documents (key_at id key) d) s.last.documents before n) (same_Some (at_seq id seq t) now is) (at t e (t.id == id) refl)
+  by (Some t) e is = subst (λ (n : Store). Goes m s.last.documents before n) (same_Some (at_seq id seq t) now is) (at t e (t.id == id) refl)
+
+pub unchanged_set : (s : State) (id seq : ℕ) (key : List ℕ) (st : Store) (d : Doc) → SameAtSameNumber s → store_of s.stores id ≡ Some st → st.seq < seq → (before now : Store)
+    → store_of s.last.stores now.id ≡ Some before → store_of (with_seq s.stores id seq) now.id ≡ Some now
+    → Goes (finite.insert s.documents (key_at id key) d) s.last.documents before now
+unchanged_set s id seq key st d =
+    unchanged_by s id seq st (finite.insert s.documents (key_at id key) d) (λ q other. got_other s.documents (key_at id key) q d (λ own. other (ap (λ (x : DocKey). x.store) own)))

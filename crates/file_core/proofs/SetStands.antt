@@ -55,11 +55,11 @@ counted_is : (od : Option Doc) (b : Bool) (n c c' : ℕ) → b ≡ is_some od �
 counted_is None b n c c' lives same small more = ap (λ (t : Bool). if t then n else min (n + 1) (2 ^ 64 - 1)) lives ∙ omega (arith, same, small, more)
 counted_is (Some d) b n c c' lives same small more = ap (λ (t : Bool). if t then n else min (n + 1) (2 ^ 64 - 1)) lives ∙ omega (arith, same, more)
 
-there_is : (o : Option Store) → is_none o ≡ false → (st : Store) × (o ≡ Some st)
+pub there_is : (o : Option Store) → is_none o ≡ false → (st : Store) × (o ≡ Some st)
 there_is None e = absurd (none-some {A = ℕ} 0 (cc))
 there_is (Some st) e = (st, refl)
 
-has_room : (max blocks needed : ℕ) → nat_lt max (blocks + needed + 2) ≡ false → blocks + needed + 2 ≤ max
+pub has_room : (max blocks needed : ℕ) → nat_lt max (blocks + needed + 2) ≡ false → blocks + needed + 2 ≤ max
 has_room max blocks needed e = grind (arith, nat_tests)
 
 -- ---- a set that is done
@@ -200,7 +200,7 @@ module _ (rules : RulesStay) (keep : PutsKeep) (lands : PutStands) (told : Bool)
 -- ---- what a set answers
 
 -- want of memory leaves what the file stands for
-kept_stands : (told : Bool) (old new : Moment) (s : State) → StandsAt told old s → OnlyMemory old new → StandsAt told new s
+pub kept_stands : (told : Bool) (old new : Moment) (s : State) → StandsAt told old s → OnlyMemory old new → StandsAt told new s
 kept_stands told old new s stands same = subst (λ (h : Held). Stands told h new.disk new.file s) (sym same.held) (record {
   running = stands.running;
   shown = λ t. same.file ∙ stands.shown t ∙ ap (λ files. files old.held.revision) (sym same.files);
@@ -234,7 +234,7 @@ kept_stands told old new s stands same = subst (λ (h : Held). Stands told h new
   within = stands.within;
 })
 
-kept_file : (told : Bool) (old new : Moment) (f : File) → IsFile told old.held old.file f → OnlyMemory old new → IsFile told new.held new.file f
+pub kept_file : (told : Bool) (old new : Moment) (f : File) → IsFile told old.held old.file f → OnlyMemory old new → IsFile told new.held new.file f
 kept_file told old new f was same = subst (λ (h : Held). IsFile told h new.file f) (sym same.held) (record {
   shown = λ t. was.shown t ∙ ap bytes_of (sym same.file);
   long = was.long;
@@ -242,10 +242,10 @@ kept_file told old new f was same = subst (λ (h : Held). IsFile told h new.file
   from = was.from;
 })
 
-no_refusal : (seq : ℕ) (why : Refusal) → replies.Seq seq ≢ replies.Refused why
+pub no_refusal : (seq : ℕ) (why : Refusal) → replies.Seq seq ≢ replies.Refused why
 no_refusal seq why e = cc
 
-same_refusal : (why other : Refusal) → replies.Refused why ≡ replies.Refused other → why ≡ other
+pub same_refusal : (why other : Refusal) → replies.Refused why ≡ replies.Refused other → why ≡ other
 same_refusal why other e = cc
 
 pub set_updates : RulesStay → RecordsKeepHeader → PutsKeep → PutStands → (told : Bool) (at : StoreRef) (key meta body : List ℕ) (old new : Moment) (result : Result ℕ Refusal)

@@ -4,3 +4,6 @@ pub mod Reads
 pub mod Lookup
 pub mod Updates
 pub mod Setting
+pub mod StoreChanges
+pub mod Writing
+pub mod Deleting

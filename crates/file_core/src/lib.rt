@@ -1,13 +1,15 @@
 //! The open file: named stores with their documents, which are read back from their records in the file.
 //!
 //! It promises that what it has in memory stands for a state of the sequential store, and that each call answers and
-//! changes what one step of that state does. So far it has the calls that read, and the one that sets a key.
+//! changes what one step of that state does. So far it has the calls that read, and those that set and delete a key.
 #![tactic(auto)]
 
+mod deleting;
 mod parts;
 mod reads;
 mod setting;
 mod state;
+mod stores;
 mod writes;
 
 pub use parts::Parts;

@@ -126,7 +126,7 @@ fn may_set<H: Host>(
     Ok((seq, documents))
 }
 
-fn is_wrong_key(key: &[u8]) -> bool
+pub(crate) fn is_wrong_key(key: &[u8]) -> bool
     ensures { result ≡ limits.is_wrong_key key.now }
 {
     key.is_empty() || key.len() > 3500
@@ -139,7 +139,7 @@ fn is_wrong_body(meta: &[u8], body: &[u8]) -> bool
 }
 
 // How many bytes a record has.
-fn record_len(key: &[u8], meta: &[u8], body: &[u8]) -> u64
+pub(crate) fn record_len(key: &[u8], meta: &[u8], body: &[u8]) -> u64
     requires key { limits.is_wrong_key key.now ≡ false }
     requires body { limits.is_wrong_body meta.now body.now ≡ false }
     ensures value { result ≡ record_length key.now meta.now body.now }
@@ -176,7 +176,7 @@ fn set_free<H: Host>(
 {
     let seq = numbers.0 + 1;
     let len = record_len(key, meta, body);
-    let rec = record_of(alloc, at.store, seq, key, meta, body)?;
+    let rec = record_of(alloc, 1, at.store, seq, key, meta, body)?;
     let Taken { room, out, address } = take(
         alloc,
         &mut parts.tail,
@@ -208,20 +208,21 @@ fn set_free<H: Host>(
     }
 }
 
-// The record that sets a key.
-fn record_of(
+// The record that sets a key, or deletes one.
+pub(crate) fn record_of(
     alloc: Global,
+    kind: u8,
     store: u64,
     seq: u64,
     key: &[u8],
     meta: &[u8],
     body: &[u8],
 ) -> Result<Rec, Refusal>
-    ensures record { IfOk result (λ rec. rec ≡ record { kind = 1; store = store; seq = seq; key = key.now; meta = meta.now; body = body.now }) }
+    ensures record { IfOk result (λ rec. rec ≡ record { kind = kind; store = store; seq = seq; key = key.now; meta = meta.now; body = body.now }) }
     ensures memory { OnErr result (result ≡ Err Refusal.NoMemory) }
 {
     Ok(Rec {
-        kind: 1,
+        kind,
         store,
         seq,
         key: Bytes::copy_of(alloc, key)?,
@@ -232,14 +233,14 @@ fn record_of(
 
 // What a record was put with: the memory of its entry, the blocks that filled, and its address.
 #[derive(Drop)]
-struct Taken {
-    room: Room,
-    out: Vec<Block>,
-    address: u64,
+pub(crate) struct Taken {
+    pub(crate) room: Room,
+    pub(crate) out: Vec<Block>,
+    pub(crate) address: u64,
 }
 
 // Takes the memory for a record's entry and for the blocks that fill, and puts the record.
-fn take(
+pub(crate) fn take(
     alloc: Global,
     tail: &mut Tail,
     wal: &mut WalIndex,

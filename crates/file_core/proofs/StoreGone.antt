@@ -1,0 +1,225 @@
+-- The file stands for the state after the removal of a store.
+use Rattle.std.proofs.Common.{◌≡◌, ◌≢◌, ℕ, ◌+◌, ◌-◌, ◌*◌, ◌/◌, ◌%◌, ◌^◌, ◌≤◌, ◌<◌, Bool, true, false, List, [], ◌∷◌, ◌++◌, length, map, Option, Some, None, Ok, Err, refl, sym, ap, subst, ◌∙◌, arith, inl, inr}
+use Rattle.std.specs.Prelude.{IsTrue, is_none, min, not, ◌||◌, ◌==◌, codes, nat_eq, nat_lt, MatchBool, MatchOption, MatchResult, Result}
+use Rattle.std.specs.Cmp.Lexicographic.{pointwise}
+use Rattle.std.specs.FinMap as finite
+use Rattle.std.specs.Option.{option_map, option_map_or}
+use Rattle.std.proofs.lemmas.Bool.{eq-eqb, true≢false}
+use Rattle.std.proofs.lemmas.Option.{none-some, same_Some}
+use Rattle.block_host.specs.Disk.{Disk}
+use Rattle.block_host.specs.declared.block.Block.{Block}
+use Rattle.doc_stream.specs.Records.{record_bytes}
+use Rattle.file_image.specs.Commits.{live_bytes}
+use Rattle.forest_model.specs.Blocks.{File}
+use Rattle.forest_model.specs.Documents.{without_store}
+use Rattle.forest_model.specs.Limits.{is_name, any_worn}
+use Rattle.forest_model.specs.Run.{FileAfter, Grows}
+use Rattle.forest_model.specs.State.{IsState}
+use Rattle.forest_model.specs.Stores.{store_named, without}
+use Rattle.forest_model.specs.Step.{Outcome, ◌where_holds◌, answer, causes, first_cause, full, record_length, step_of, updated}
+use Rattle.forest_model.specs.declared.call.Call.TheVariants as calls
+use Rattle.forest_model.specs.declared.call.Reply.TheVariants as replies
+use Rattle.forest_model.specs.declared.call.StoreRef.{StoreRef}
+use Rattle.forest_model.specs.declared.refusal.Refusal.{Refusal}
+use Rattle.forest_model.specs.declared.refusal.Refusal.TheVariants.{ReadOnly, NameForm, NoStore, Worn, FileFull}
+use Rattle.forest_model.specs.declared.state.State.{State}
+use Rattle.forest_model.specs.declared.state.Store.{Store}
+use Rattle.forest_model.specs.declared.stored.Entry.{Entry}
+use Rattle.forest_model.specs.declared.stored.Rec.{Rec}
+use Rattle.kvs_names.specs.Table as tables
+use Rattle.model_laws.specs.Laws.{RulesStay, RecordsKeepHeader}
+use Rattle.file_core.specs.Held.{Held}
+use Rattle.file_core.specs.Setting.{blocks_needed, OnlyMemory}
+use Rattle.file_core.specs.Stands.{Stands, AreDocuments, DrawNumbers, row_in}
+use Rattle.file_core.specs.StoreChanges.{id_named, gone_of, own_live, remove_causes, RemovesStore, RemoveGives, RemoveAnswers}
+use Rattle.file_core.specs.Updates.{Moment, StandsAt, IsFile, UpdatesAs, bytes_of}
+use Rattle.file_core.proofs.SetBlocks.{length-record}
+use Rattle.file_core.proofs.SetCauses.{none_holds, unmet, refused_first, answered_last}
+use Rattle.file_core.proofs.SetEntries.{older_len}
+use Rattle.file_core.proofs.SetStands.{PutsKeep, kept_stands, kept_file, same_refusal, has_room}
+use Rattle.file_core.proofs.PutRecord.{number_is, bytes_are, loose_is, open_short, size_is, documents_stay, adds, file_is}
+use Rattle.file_core.proofs.StoreCauses.{id_is}
+use Rattle.file_core.proofs.StoreLess.{rows_less, documents_less, numbers_less, unchanged_less, may_go}
+use Rattle.file_core.proofs.StoreMade.{some_mapped}
+use Rattle.file_core.proofs.StoreSums.{live_without}
+
+-- ---- why it isn't removed
+
+same_none : (o : Option Store) → is_none (option_map (λ st. st.id) o) ≡ is_none o
+same_none None = refl
+same_none (Some st) = refl
+
+module _ (told : Bool) (p : Held) (disk : Disk) (file : List Block) (s : State) (f : File) (at : StoreRef) (name : List ℕ) (stands : Stands told p disk file s) (is_long : length f ≡ p.blocks) where
+  gone_is : is_none (id_named p.names name) ≡ is_none (store_named s.stores name)
+  gone_is = ap is_none (id_is told p disk file s f name false stands is_long) ∙ same_none (store_named s.stores name)
+
+  needed_is : blocks_needed p [] [] [] ≡ (s.loose + record_length [] [] []) / 4064
+  needed_is = ap (λ n. (n + record_length [] [] []) / 4064) stands.open_block
+
+  causes_are : remove_causes p at name ≡ causes s (calls.StoreRemove at name) ++ full s f (calls.StoreRemove at name) ∷ []
+  causes_are = λ i.
+      (ReadOnly where_holds at.read_only) ∷ (NameForm where_holds (not (is_name name) || pointwise nat_eq name (codes "default")))
+      ∷ (NoStore where_holds gone_is i) ∷ (Worn where_holds any_worn ((stands.place i + 1) ∷ []))
+      ∷ (FileFull (sym is_long i) (needed_is i) (stands.limits i).max_blocks where_holds nat_lt (stands.limits i).max_blocks (sym is_long i + needed_is i + 2)) ∷ []
+
+  remove_refused : (why : Refusal) → first_cause (remove_causes p at name) ≡ Some why → step_of s f (calls.StoreRemove at name) ≡ (replies.Refused why, s)
+  remove_refused why e =
+      refused_first (causes s (calls.StoreRemove at name)) (full s f (calls.StoreRemove at name)) s (answer s (calls.StoreRemove at name)) why (ap first_cause (sym causes_are) ∙ e)
+
+  remove_answered : first_cause (remove_causes p at name) ≡ None → step_of s f (calls.StoreRemove at name) ≡ answer s (calls.StoreRemove at name)
+  remove_answered e =
+      answered_last (causes s (calls.StoreRemove at name)) (full s f (calls.StoreRemove at name)) s (answer s (calls.StoreRemove at name)) (ap first_cause (sym causes_are) ∙ e)
+
+-- ---- a store that is removed
+
+-- the state without a store
+abbrev without_it : State → ℕ → State
+without_it s id = record (updated s (record_length [] [] [])) { stores = without s.stores id; documents = without_store s.documents id }
+
+module _ (rules : RulesStay) (keep : PutsKeep) (told : Bool) (at : StoreRef) (name : List ℕ) (old new : Moment) (s : State) (f : File) (stands : StandsAt told old s) (st : Store) (found : store_named s.stores name ≡ Some st) (other : pointwise nat_eq name (codes "default") ≡ false) (room : old.held.blocks + blocks_needed old.held [] [] [] + 2 ≤ old.held.limits.max_blocks) (stepped : step_of s f (calls.StoreRemove at name) ≡ (replies.Removed st.id, without_it s st.id)) (removes : RemovesStore told st.id old new) where
+  abbrev rec : Rec
+  rec = gone_of st.id
+
+  abbrev n : ℕ
+  n = record_length [] [] []
+
+  long : length (record_bytes rec) ≡ n
+  long = length-record rec
+
+  number_now : new.held.tail.number ≡ old.held.blocks + blocks_needed old.held [] [] []
+  number_now = number_is keep told rec n old new s stands removes.puts long
+
+  max_is : old.held.limits.max_blocks ≡ s.limits.max_blocks
+  max_is = ap (λ l. l.max_blocks) stands.limits
+
+  names_are : new.held.names ≡ tables.without old.held.names st.id
+  names_are = removes.names (may_go s.documents s.stores old.held.names name st stands.is_state.now stands.rows found other)
+
+  rows_now : new.held.names.rows ≡ map (row_in (without_store s.documents st.id)) (without s.stores st.id)
+  rows_now =
+      ap (λ (t : tables.Table). t.rows) names_are ∙ ap (λ rows. (tables.without (record { rows = rows; next = 0 }) st.id).rows) stands.rows ∙ rows_less s.documents st.id s.stores
+
+  less : live_bytes (without_store s.documents st.id) + own_live st.id old.held.wal.entries ≡ live_bytes s.documents
+  less = live_without st.id old.held.wal.entries s.documents (λ q. older_len told old.held.revision old.file old.held.tail q (finite.get old.held.wal.entries q) (finite.get s.documents q) (stands.documents q))
+
+  live_now : old.held.live - min (own_live st.id old.held.wal.entries) (2 ^ 64 - 1) ≡ live_bytes (without_store s.documents st.id)
+  live_now =
+      let short = open_short keep told rec n old new s stands removes.puts long in
+      omega (arith, less, stands.live, stands.within, stands.low, short)
+
+  pub gone_stands : StandsAt told new (without_it s st.id)
+  gone_stands = subst (λ (h : Held). Stands told h new.disk new.file (without_it s st.id)) (sym removes.rest) (record {
+    running = stands.running;
+    shown = λ t. removes.puts.shown t (stands.shown t);
+    is_state = subst (λ (o : Outcome). IsState o.1) stepped (rules s f (calls.StoreRemove at name) stands.is_state);
+    rows = rows_now;
+    next_store = ap (λ (t : tables.Table). t.next) names_are ∙ stands.next_store;
+    no_key_root = stands.no_key_root;
+    no_seq_root = stands.no_seq_root;
+    documents =
+        subst (λ (m : finite.FinMap _ Entry). AreDocuments told old.held.revision new.file new.held.tail m (without_store s.documents st.id)) (sym removes.entries)
+        (documents_less told old.held.revision new.file new.held.tail old.held.wal.entries s.documents st.id (documents_stay keep told rec n old new s stands removes.puts long));
+    numbers =
+        subst (λ (m : finite.FinMap _ Entry). DrawNumbers m (without s.stores st.id)) (sym removes.entries)
+        (numbers_less old.held.wal.entries s.stores st.id stands.numbers);
+    live = live_now;
+    commit = stands.commit;
+    committed = stands.committed;
+    kept = stands.kept;
+    unchanged = λ before now was is. unchanged_less s st.id stands.unchanged before now was is;
+    revision = stands.revision;
+    generation = stands.generation;
+    place = ap (λ m. m + 1) stands.place;
+    next_commit = stands.next_commit;
+    next_ticket = stands.next_ticket;
+    limits = stands.limits;
+    copying = stands.copying;
+    loose = loose_is keep told rec n old new s stands removes.puts long;
+    open_block = loose_is keep told rec n old new s stands removes.puts long;
+    at_end = refl;
+    size = λ t. size_is keep told rec n old new s stands removes.puts long t;
+    room = inr (omega (arith, number_now, room, max_is));
+    low = omega (arith, number_now, room, max_is, stands.most);
+    most = stands.most;
+    within = omega (arith, live_now, less, stands.live, bytes_are keep told rec n old new s stands removes.puts long, stands.within);
+  })
+
+  pub gone_grows : FileAfter s f (Some (calls.StoreRemove at name)) (without_it s st.id) (f ++ bytes_of removes.puts.out)
+  gone_grows = subst (λ (b : Bool). MatchBool b (Grows s f (calls.StoreRemove at name) (f ++ bytes_of removes.puts.out)) (f ++ bytes_of removes.puts.out ≡ f)) (sym (eq-eqb (s.place + 1) (s.place + 1) refl))
+      (adds keep told rec n old new s stands removes.puts long f)
+
+  pub gone_file : RecordsKeepHeader → IsFile told old.held old.file f → IsFile told new.held new.file (f ++ bytes_of removes.puts.out)
+  gone_file headers was =
+      file_is keep told rec n old new s stands removes.puts long headers f was (ap (λ (h : Held). h.header) removes.rest) (ap (λ (h : Held). h.header_at) removes.rest) (ap (λ (h : Held). h.blocks) removes.rest)
+
+-- ---- what a removal answers
+
+no_refusal : (id : ℕ) (why : Refusal) → replies.Removed id ≢ replies.Refused why
+no_refusal id why e = cc
+
+or_second : (a b : Bool) → (a || b) ≡ false → b ≡ false
+or_second true b e = absurd (true≢false e)
+or_second false b e = e
+
+there_is : (o : Option Store) → is_none o ≡ false → (st : Store) × (o ≡ Some st)
+there_is None e = absurd (true≢false e)
+there_is (Some st) e = (st, refl)
+
+pub remove_updates : RulesStay → RecordsKeepHeader → PutsKeep → (told : Bool) (at : StoreRef) (name : List ℕ) (old new : Moment) (result : Result ℕ Refusal)
+    → RemoveAnswers told at name old new result → (s : State) (f : File) → StandsAt told old s → IsFile told old.held old.file f → UpdatesAs told replies.Removed s f (calls.StoreRemove at name) old new result
+remove_updates rules headers keep told at name old new result answers s f stands was = by (first_cause (remove_causes old.held at name)) refl answers where
+  refused : (why : Refusal) → first_cause (remove_causes old.held at name) ≡ Some why → result ≡ Err why → OnlyMemory old new → UpdatesAs told replies.Removed s f (calls.StoreRemove at name) old new result
+  refused why e is same =
+      let step = remove_refused told old.held old.disk old.file s f at name stands was.long why e in
+      subst (λ (r : Result ℕ Refusal). UpdatesAs told replies.Removed s f (calls.StoreRemove at name) old new r) (sym is) (record {
+        done = tt;
+        refused = λ other h. ap Err (same_refusal why other (sym (ap (λ (o : Outcome). o.0) step) ∙ h));
+        reason = inl (ap (λ (o : Outcome). o.0) step, kept_stands told old new s stands same, kept_file told old new f was same);
+      })
+
+  step : (st : Store) → first_cause (remove_causes old.held at name) ≡ None → store_named s.stores name ≡ Some st → step_of s f (calls.StoreRemove at name) ≡ (replies.Removed st.id, without_it s st.id)
+  step st free found =
+      remove_answered told old.held old.disk old.file s f at name stands was.long free
+      ∙ ap (λ (o : Option Store). option_map_or {U = Outcome} (λ t. (replies.Removed t.id, without_it s t.id)) o (replies.Refused NoStore, s)) found
+
+  given : (r : Result ℕ Refusal) → first_cause (remove_causes old.held at name) ≡ None → RemoveGives told name old new r → UpdatesAs told replies.Removed s f (calls.StoreRemove at name) old new r
+  given (Ok id) free gives =
+      let it = some_mapped (store_named s.stores name) id (sym (id_is told old.held old.disk old.file s f name false stands was.long) ∙ gives.0) in
+      let removes : RemovesStore told it.0.id old new = subst (λ (m : ℕ). RemovesStore told m old new) (sym it.2) gives.1 in
+      let causes = none_holds (remove_causes old.held at name) free in
+      let other : pointwise nat_eq name (codes "default") ≡ false = or_second _ _ (unmet _ _ causes.1.0) in
+      let room : old.held.blocks + blocks_needed old.held [] [] [] + 2 ≤ old.held.limits.max_blocks = has_room _ _ _ (unmet _ _ causes.1.1.1.1.0) in
+      let stepped = step it.0 free it.1 in
+      record {
+        done = (
+          ap (λ (o : Outcome). o.0) stepped ∙ ap replies.Removed it.2,
+          subst (λ (o : Outcome). StandsAt told new o.1) (sym stepped) (gone_stands rules keep told at name old new s f stands it.0 it.1 other room stepped removes),
+          (
+            f ++ bytes_of removes.puts.out,
+            subst (λ (o : Outcome). FileAfter s f (Some (calls.StoreRemove at name)) o.1 (f ++ bytes_of removes.puts.out)) (sym stepped) (gone_grows rules keep told at name old new s f stands it.0 it.1 other room stepped removes),
+            gone_file rules keep told at name old new s f stands it.0 it.1 other room stepped removes headers was,
+          ),
+        );
+        refused = λ why h. absurd (no_refusal _ why (sym (ap (λ (o : Outcome). o.0) stepped) ∙ h));
+        reason = tt;
+      }
+  given (Err why) free gives =
+      let causes = none_holds (remove_causes old.held at name) free in
+      let it = there_is (store_named s.stores name) (sym (gone_is told old.held old.disk old.file s f at name stands was.long) ∙ unmet _ _ causes.1.1.0) in
+      let stepped = step it.0 free it.1 in
+      record {
+        done = tt;
+        refused = λ other h. absurd (no_refusal _ other (sym (ap (λ (o : Outcome). o.0) stepped) ∙ h));
+        reason = elim gives [
+          | inl memory ↦ inr (inl (memory.0, kept_stands told old new s stands memory.1, kept_file told old new f was memory.1))
+          | inr other ↦ elim other [
+            | inl fault ↦ inr (inr (fault.0, inl fault.1))
+            | inr far ↦ absurd (omega (arith, far, stands.at_end, stands.low))
+          ]
+        ];
+      }
+
+  by : (o : Option Refusal) → first_cause (remove_causes old.held at name) ≡ o → MatchOption o (RemoveGives told name old new result) (λ why. (result ≡ Err why) × OnlyMemory old new)
+      → UpdatesAs told replies.Removed s f (calls.StoreRemove at name) old new result
+  by None e h = given result e h
+  by (Some why) e h = refused why e h.0 h.1
