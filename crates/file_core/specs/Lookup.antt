@@ -1,5 +1,5 @@
 -- What a read looks up in memory, before it reads the file.
-use Rattle.std.specs.Prelude.{◌≡◌, ◌⊎◌, ℕ, Bool, true, false, IsTrue, List, [], ◌∷◌, Option, Some, None, Result, Ok, Err, is_none, IfOk, IfErr, if◌then◌else◌}
+use Rattle.std.specs.Prelude.{◌≡◌, ◌⊎◌, ◌+◌, ◌/◌, ℕ, nat_lt, Bool, true, false, IsTrue, List, [], ◌∷◌, Option, Some, None, Result, Ok, Err, is_none, IfOk, IfErr, if◌then◌else◌}
 use Rattle.std.specs.Option.{option_map, option_map_or}
 use Rattle.std.specs.FinMap as finite
 use Rattle.block_host.specs.declared.block.Block.{Block}
@@ -87,6 +87,11 @@ pub record FindsRecord (told : Bool) (revision : ℕ) (file : List Block) (tail 
   pub number : IfOk result (λ found. found.seq ≡ e.seq)
   pub reason : IfErr result (Reason told revision (BreaksRecord revision file tail e.address) before after)
 
+-- the floor of a file: the blocks that it had just after the last switch, and before one as many as the live records fill,
+-- and one for a header
+abbrev pub floor_in : ℕ → ℕ → ℕ
+floor_in floor live = if nat_lt 0 floor then floor else (live + 4063) / 4064 + 1
+
 -- where a file stands
 abbrev pub layout_of : Held → Layout
 layout_of p = record {
@@ -96,6 +101,6 @@ layout_of p = record {
   wal_from = p.header.wal_from;
   pending = finite.len p.wal.entries;
   live = p.live;
-  floor = p.floor;
+  floor = floor_in p.floor p.live;
   left = p.left;
 }

@@ -38,7 +38,7 @@ pub struct Parts<H: Host> {
     pub next_ticket: u64,
     /// The ticket and the base of the running compaction.
     pub copying: Option<(u64, u64)>,
-    /// The blocks that the file had just after the last switch.
+    /// The blocks that the file had just after the last switch, and 0 before one.
     pub floor: u64,
     /// The host's count of faults at opening.
     pub opened: u64,

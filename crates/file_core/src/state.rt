@@ -10,7 +10,7 @@ ghost use Rattle.forest_model.specs.declared.state.State.{State};
 ghost use Rattle.forest_model.specs.declared.stored.Entry.{Entry};
 ghost use Rattle.wal_index.specs.Index.{entry_at};
 ghost use Rattle.file_core.specs.Held.{held};
-ghost use Rattle.file_core.specs.Lookup.{FindsRecord, IsNumbered, layout_of};
+ghost use Rattle.file_core.specs.Lookup.{FindsRecord, IsNumbered, floor_in, layout_of};
 ghost use Rattle.file_core.specs.Reads.{ReadsFrom};
 ghost use Rattle.file_core.specs.Stands.{Stands};
 
@@ -35,10 +35,23 @@ pub struct Layout {
     pub pending: u64,
     /// The bytes of the records of all documents.
     pub live: u64,
-    /// The blocks that the file had just after the last switch.
+    /// How many blocks the file would have without anything stale: as many as it had just after the last switch; before one
+    /// as many as the live records fill, and a header.
     pub floor: u64,
     /// Why a flush that was due was left.
     pub left: Option<Refusal>,
+}
+
+// The floor of a file's compaction: what stood there just after the last switch, and before one as many blocks as the live
+// records fill, and one for the header.
+fn floor_of(floor: u64, live: u64) -> u64
+    ensures { result ≡ floor_in floor live }
+{
+    if floor > 0 {
+        return floor;
+    }
+    let begun = if live % 4064 == 0 { 0 } else { 1 };
+    live / 4064 + begun + 1
 }
 
 /// An open file.
@@ -141,7 +154,7 @@ impl<H: Host> FileState<H> {
             wal_from: parts.header.wal_from,
             pending: parts.wal.len(),
             live: parts.live,
-            floor: parts.floor,
+            floor: floor_of(parts.floor, parts.live),
             left: parts.left,
         }
     }

@@ -23,7 +23,7 @@ new_held limits = record {
   next_commit = 1;
   next_ticket = 1;
   copying = None;
-  floor = 1;
+  floor = 0;
   stopped = None;
   left = None;
 }

@@ -93,7 +93,7 @@ fn new_parts<H: Host>(alloc: Global, host: H, view: H::View, tail: Tail, limits:
         next_commit: 1,
         next_ticket: 1,
         copying: None,
-        floor: 1,
+        floor: 0,
         opened,
         stopped: None,
         damaged: None,

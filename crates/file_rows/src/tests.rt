@@ -63,7 +63,7 @@ fn layout(blocks: u64, pending: u64, live: u64) -> Layout {
         wal_from: 1,
         pending,
         live,
-        floor: 1,
+        floor: live.saturating_add(4063) / 4064 + 1,
         left: None,
     }
 }
