@@ -46,3 +46,10 @@ pub fn blocks_keep_records()
     ensures { (revision : ℕ) (before after : OpenBlock) (file more : List Block) (address : ℕ) (r : Rec) → before.number ≡ length file → before.bytes ≡ [] → length file ≤ after.number
         → RecordAt revision file before address r → RecordAt revision (file ++ more) after address r }
 {}
+
+/// Bytes put one after another are put as one.
+pub fn puts_join()
+    ensures join { (revision : ℕ) (first second : List ℕ) (a b c : OpenBlock) (o p q : List Block) → length c.bytes < 4064
+        → PutsBytes revision first a b o p → PutsBytes revision second b c p q → PutsBytes revision (first ++ second) a c o q }
+    ensures none { (revision : ℕ) (a : OpenBlock) (o : List Block) → length a.bytes < 4064 → PutsBytes revision [] a a o o }
+{}

@@ -15,8 +15,8 @@ mod reading;
 mod tail;
 
 pub use laws::{
-    blocks_keep_records, pads_keep_records, put_stands, puts_keep_records, written_is_read,
-    written_is_scanned,
+    blocks_keep_records, pads_keep_records, put_stands, puts_join, puts_keep_records,
+    written_is_read, written_is_scanned,
 };
 pub use reading::{read, scan};
 pub use tail::Tail;

@@ -1,4 +1,4 @@
-ghost use Rattle.std.specs.Prelude.{◌≡◌, ◌≢◌, ◌+◌, ◌-◌, ◌^◌, ◌<◌, ◌≤◌, false, ℕ, List, [], length, take, drop, ◌++◌, IsTrue, IfOk, IfErr, OnOk, MatchOption, Some};
+ghost use Rattle.std.specs.Prelude.{◌≡◌, ◌≢◌, ◌+◌, ◌-◌, ◌^◌, ◌<◌, ◌≤◌, false, ℕ, List, [], length, take, drop, ◌++◌, IsTrue, IfOk, IfErr, OnOk, MatchOption, Some, Err};
 ghost use Rattle.forest_model.specs.declared.refusal.Refusal.TheVariants as Refusal;
 ghost use Rattle.doc_stream.specs.Causes.{Reason};
 ghost use Rattle.doc_stream.specs.OpenBlock.{address_of};
@@ -85,7 +85,7 @@ impl Reader {
         ensures reason { IfErr result (Reason V.tells source.now.revision (λ block. (block ≡ self.old.next) × Unsealed (asked_of source.now) (V.content view.old) self.old.next) (V.faults view.old) (V.faults view.new)) }
         ensures content { IsTrue V.tells → V.content view.new ≡ V.content view.old }
         ensures counts { V.faults view.old ≤ V.faults view.new }
-        ensures untroubled { OnOk result (V.faults view.new ≡ V.faults view.old) }
+        ensures untroubled { result ≢ Err Refusal.DiskFault → V.faults view.new ≡ V.faults view.old }
     {
         let at = self.next;
         self.next += 1;
@@ -114,7 +114,7 @@ impl Reader {
         ensures reason { IfErr result (Reason V.tells source.now.revision (Stops (asked_of source.now) (V.content view.old) self.old 1) (V.faults view.old) (V.faults view.new)) }
         ensures content { IsTrue V.tells → V.content view.new ≡ V.content view.old }
         ensures counts { V.faults view.old ≤ V.faults view.new }
-        ensures untroubled { OnOk result (V.faults view.new ≡ V.faults view.old) }
+        ensures untroubled { result ≢ Err Refusal.DiskFault → V.faults view.new ≡ V.faults view.old }
     {
         if self.has_bytes() {
             return Ok(());
@@ -235,7 +235,7 @@ impl Reader {
         ensures reason { IfErr result (Reason V.tells source.now.revision (Stops (asked_of source.now) (V.content view.old) self.old (length out.old)) (V.faults view.old) (V.faults view.new)) }
         ensures content { IsTrue V.tells → V.content view.new ≡ V.content view.old }
         ensures counts { V.faults view.old ≤ V.faults view.new }
-        ensures untroubled { OnOk result (V.faults view.new ≡ V.faults view.old) }
+        ensures untroubled { result ≢ Err Refusal.DiskFault → V.faults view.new ≡ V.faults view.old }
     {
         let mut filled = 0;
         while filled < out.len() {
@@ -262,7 +262,7 @@ impl Reader {
         ensures reason { IfErr result (Reason V.tells source.now.revision (Stops (asked_of source.now) (V.content view.old) self.old count) (V.faults view.old) (V.faults view.new)) }
         ensures content { IsTrue V.tells → V.content view.new ≡ V.content view.old }
         ensures counts { V.faults view.old ≤ V.faults view.new }
-        ensures untroubled { OnOk result (V.faults view.new ≡ V.faults view.old) }
+        ensures untroubled { result ≢ Err Refusal.DiskFault → V.faults view.new ≡ V.faults view.old }
     {
         let mut bytes = vec![in alloc; 0; count]?;
         self.fill(view, source, &mut bytes)?;
@@ -288,7 +288,7 @@ impl Reader {
         ensures reason { IfErr result (Reason V.tells source.now.revision (Stops (asked_of source.now) (V.content view.old) self.old (head.now.key + head.now.meta + head.now.body)) (V.faults view.old) (V.faults view.new)) }
         ensures content { IsTrue V.tells → V.content view.new ≡ V.content view.old }
         ensures counts { V.faults view.old ≤ V.faults view.new }
-        ensures untroubled { OnOk result (V.faults view.new ≡ V.faults view.old) }
+        ensures untroubled { result ≢ Err Refusal.DiskFault → V.faults view.new ≡ V.faults view.old }
     {
         let key = self.bytes(alloc, view, source, head.key as usize)?;
         let meta = self.bytes(alloc, view, source, head.meta as usize)?;
@@ -312,7 +312,7 @@ impl Reader {
         ensures reason { IfErr result (Reason V.tells source.now.revision (StopsRecord (asked_of source.now) (V.content view.old) self.old) (V.faults view.old) (V.faults view.new)) }
         ensures content { IsTrue V.tells → V.content view.new ≡ V.content view.old }
         ensures counts { V.faults view.old ≤ V.faults view.new }
-        ensures untroubled { OnOk result (V.faults view.new ≡ V.faults view.old) }
+        ensures untroubled { result ≢ Err Refusal.DiskFault → V.faults view.new ≡ V.faults view.old }
     {
         let mut start = [0; 24];
         self.fill(view, source, &mut start)?;
@@ -347,7 +347,7 @@ fn fetch<V: View>(
     ensures reason { IfErr result (Reason V.tells revision (λ n. (n ≡ at) × ((kind : ℕ) (payload : List ℕ) → Stands revision (V.content view.old) at kind payload → ⊥)) (V.faults view.old) (V.faults view.new)) }
     ensures content { IsTrue V.tells → V.content view.new ≡ V.content view.old }
     ensures counts { V.faults view.old ≤ V.faults view.new }
-    ensures untroubled { OnOk result (V.faults view.new ≡ V.faults view.old) }
+    ensures untroubled { result ≢ Err Refusal.DiskFault → V.faults view.new ≡ V.faults view.old }
 {
     let Ok(()) = view.read(at, block) else {
         return Err(Refusal::DiskFault);

@@ -1,4 +1,4 @@
-ghost use Rattle.std.specs.Prelude.{◌≡◌, ◌⊎◌, ◌≤◌, ◌<◌, ◌-◌, ◌/◌, ◌^◌, ◌++◌, ℕ, List, length, Some, None, IsTrue, IfOk, IfErr, OnOk, Ok, Err};
+ghost use Rattle.std.specs.Prelude.{◌≡◌, ◌⊎◌, ◌≤◌, ◌<◌, ◌-◌, ◌/◌, ◌^◌, ◌++◌, ℕ, List, length, Some, None, IsTrue, IfOk, IfErr, OnOk, Ok, Err, ◌≢◌};
 ghost use Rattle.forest_model.specs.declared.refusal.Refusal.TheVariants as Refusal;
 ghost use Rattle.forest_model.specs.declared.stored.Rec.{Rec};
 ghost use Rattle.doc_stream.specs.Causes.{BreaksRecord, BreaksRecords, Reason};
@@ -28,7 +28,7 @@ pub fn scan<V: View>(
     ensures reason { IfErr result (Reason V.tells rev (BreaksRecords rev (V.content view.old) from (to - from)) (V.faults view.old) (V.faults view.new)) }
     ensures content { IsTrue V.tells → V.content view.new ≡ V.content view.old }
     ensures counts { V.faults view.old ≤ V.faults view.new }
-    ensures untroubled { OnOk result (V.faults view.new ≡ V.faults view.old) }
+    ensures untroubled { result ≢ Err Refusal.DiskFault → V.faults view.new ≡ V.faults view.old }
 {
     let source = Source {
         revision: rev,
@@ -63,7 +63,7 @@ fn step<V: View>(
     ensures reason { IfErr result (Reason V.tells source.now.revision (BreaksRest (asked_of source.now) (V.content view.old) reader.old) (V.faults view.old) (V.faults view.new)) }
     ensures content { IsTrue V.tells → V.content view.new ≡ V.content view.old }
     ensures counts { V.faults view.old ≤ V.faults view.new }
-    ensures untroubled { OnOk result (V.faults view.new ≡ V.faults view.old) }
+    ensures untroubled { result ≢ Err Refusal.DiskFault → V.faults view.new ≡ V.faults view.old }
 {
     if !reader.has_bytes() {
         reader.load(view, source)?;
@@ -88,7 +88,7 @@ pub fn read<V: View>(
     ensures reason { IfErr result (Reason V.tells rev (BreaksRecord rev (V.content view.old) tail.now address) (V.faults view.old) (V.faults view.new)) }
     ensures content { IsTrue V.tells → V.content view.new ≡ V.content view.old }
     ensures counts { V.faults view.old ≤ V.faults view.new }
-    ensures untroubled { OnOk result (V.faults view.new ≡ V.faults view.old) }
+    ensures untroubled { result ≢ Err Refusal.DiskFault → V.faults view.new ≡ V.faults view.old }
 {
     let source = Source {
         revision: rev,
@@ -116,7 +116,7 @@ fn go_to<V: View>(
     ensures reason { IfErr result (Reason V.tells source.now.revision (BreaksRecord source.now.revision (V.content view.old) tail.now address) (V.faults view.old) (V.faults view.new)) }
     ensures content { IsTrue V.tells → V.content view.new ≡ V.content view.old }
     ensures counts { V.faults view.old ≤ V.faults view.new }
-    ensures untroubled { OnOk result (V.faults view.new ≡ V.faults view.old) }
+    ensures untroubled { result ≢ Err Refusal.DiskFault → V.faults view.new ≡ V.faults view.old }
 {
     if !reader.load(view, source)? {
         return Err(reader.damaged(source));

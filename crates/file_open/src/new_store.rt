@@ -45,6 +45,7 @@ pub fn open_new<H: Host>(
     ensures refused { IfErr result (λ back. (back.0 ≡ NoMemory) ⊎ ((back.0 ≡ DiskFault) × (risen (H.faults host) ≤ H.faults back.1))) }
     ensures back { IsTrue H.tells → IfErr result (λ back. Reads (H.disk host) (H.disk back.1)) }
     ensures back_clock { IfErr result (λ back. (H.disk host).moment ≤ (H.disk back.1).moment) }
+    ensures back_untroubled { IfErr result (λ back. back.0 ≡ NoMemory → H.faults back.1 ≡ H.faults host) }
     ensures back_counts { IfErr result (λ back. H.faults host ≤ H.faults back.1) }
     ensures back_greatest { IfErr result (λ back. H.greatest back.1 ≡ H.greatest host) }
 {

@@ -30,7 +30,7 @@ loop-reader-preserved g c =
           subst (λ (l : List (ℕ × Rec)). Scans asked file start new l) (sym more.1)
           (scans_both asked refl file start old new c.loop-reader.records more.0 (inv.scanned told) (subst (λ (f : List Block). Scans asked f old new more.0) (inv.content told) more.2));
       content = λ told. c.in_ok-step.ensures.content told ∙ inv.content told;
-      untroubled = c.in_ok-step.ensures.untroubled ∙ inv.untroubled;
+      untroubled = c.in_ok-step.ensures.untroubled (λ is. cc) ∙ inv.untroubled;
     }
 
 -- what breaks the rest breaks the records asked

@@ -50,5 +50,5 @@ loop-filled-preserved g c =
       taken = λ told. fill_more asked file place old mid new out part (post_of filled left out) (put_mid filled left out part) filled n within c.copy-filled.ensures.least fits refl
           (inv.taken told) (subst (λ (f : List Block). Turns asked f old mid) (inv.content told) (c.in_ok-turn.ensures.turned told)) c.copy-filled.ensures.next c.copy-filled.ensures.offset c.copy-filled.ensures.taken;
       content = λ told. c.in_ok-turn.ensures.content told ∙ inv.content told;
-      untroubled = c.in_ok-turn.ensures.untroubled ∙ inv.untroubled;
+      untroubled = c.in_ok-turn.ensures.untroubled (λ is. cc) ∙ inv.untroubled;
     }
