@@ -53,6 +53,13 @@ impl Names {
         to_stores(&self.rows)
     }
 
+    /// How many stores there are.
+    pub fn len(&self) -> u64
+        ensures { result ≡ length self.now.rows }
+    {
+        self.rows.len() as u64
+    }
+
     /// The id of the next store.
     pub fn next(&self) -> u64
         ensures { result ≡ self.now.next }

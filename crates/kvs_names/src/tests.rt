@@ -50,6 +50,7 @@ fn stores_are_counted_and_removed(rt: HostRuntime) -> Result<(), Fail> {
     assert_eq!(rt; names.numbers(0), Some((7, 3)));
     assert_eq!(rt; names.numbers(1), Some((0, 0)));
     assert_eq!(rt; names.numbers(2), None);
+    assert_eq!(rt; names.len(), 2);
     assert_eq!(rt; names.stores().len(), 2);
     assert_eq!(rt;
         names.stores().at(0),
@@ -76,7 +77,7 @@ fn there_are_at_most_64_stores(rt: HostRuntime) -> Result<(), Fail> {
         );
     }
     assert_eq!(rt; open(&mut names, b"more"), Err(Refusal::StoreCount));
-    assert_eq!(rt; names.stores().len(), 64);
+    assert_eq!(rt; names.len(), 64);
     assert_eq!(rt; names.remove(9), Ok(()));
     assert_eq!(rt; open(&mut names, b"more"), Ok(64));
     assert_eq!(rt; names.find(b"aa"), Err(Refusal::NoStore));

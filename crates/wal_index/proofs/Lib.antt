@@ -2,8 +2,15 @@ pub mod ByNumber
 pub mod Found
 pub mod Maps
 pub mod Marks
+pub mod Merged
+pub mod MergedEnds
+pub mod MergedRows
+pub mod Moved
+pub mod NearerRow
 pub mod NextEntry
 pub mod NextNumber
 pub mod Orders
 pub mod Placed
 pub mod Sorted
+pub mod StoreRows
+pub mod TwoLists

@@ -1,5 +1,5 @@
 -- The map that sorted entries make.
-use Rattle.std.proofs.Common.{◌≡◌, ℕ, Bool, true, false, cond, T, List, [], ◌∷◌, length, map, refl, filter, sym, ap, ◌∙◌, subst}
+use Rattle.std.proofs.Common.{◌≡◌, ℕ, Bool, true, false, cond, T, List, [], ◌∷◌, length, refl, filter, sym, ap, ◌∙◌, subst}
 use Rattle.std.specs.Prelude.{None}
 use Rattle.std.specs.Global.{Box}
 use Rattle.std.specs.FinMap as finite
@@ -9,8 +9,8 @@ use Rattle.forest_model.specs.Key.{key_cmp}
 use Rattle.forest_model.specs.declared.documents.DocKey.{DocKey}
 use Rattle.forest_model.specs.declared.stored.Entry.{Entry}
 use Rattle.forest_model.specs.declared.stored.KeyEntry.{KeyEntry}
-use Rattle.wal_index.specs.Index.{key_at, key_entry}
-use Rattle.wal_index.specs.Rows.{key_of, pair_of, pairs, held}
+use Rattle.wal_index.specs.Index.{key_at}
+use Rattle.wal_index.specs.Rows.{key_of, pair_of, pairs}
 use Rattle.wal_index.proofs.Orders.{keys_total, exact_keys}
 
 pub put_sorted : (es fs : List (DocKey × Entry)) (k : DocKey) (v : Entry) → T (finite.is_sorted key_cmp es) → fs ≡ finite.put key_cmp k v es → T (finite.is_sorted key_cmp fs)
@@ -52,18 +52,6 @@ pairs_filter p rows kept is = ap pairs is ∙ each rows
     ]
 
 -- a row of a key that was put
-pub row_put : (rows new : List (Box KeyEntry)) (row : Box KeyEntry) (store : ℕ) (key : List ℕ) (entry : Entry) → pairs new ≡ finite.put key_cmp (key_of row) row.value.entry (pairs rows) → row.value ≡ record { store = store; key = key; entry = entry }
-    → pairs new ≡ finite.put key_cmp (key_at store key) entry (pairs rows)
-row_put rows new row store key entry put is = put ∙ ap (λ (v : KeyEntry). finite.put key_cmp (key_at v.store v.key) v.entry (pairs rows)) is
-
--- equal rows make equal entries
-pub same_pairs : (rows others : List (Box KeyEntry)) → held others ≡ held rows → pairs others ≡ pairs rows
-same_pairs rows others same = sym (each others) ∙ ap (map (λ (v : KeyEntry). (key_at v.store v.key, v.entry))) same ∙ each rows
-  where
-    each : (rs : List (Box KeyEntry)) → map (λ (v : KeyEntry). (key_at v.store v.key, v.entry)) (held rs) ≡ pairs rs
-    each [] = refl
-    each (r ∷ rs) = ap (λ es. pair_of r ∷ es) (each rs)
-
-pub held_pairs : (rows : List (Box KeyEntry)) → held rows ≡ map key_entry (pairs rows)
-held_pairs [] = refl
-held_pairs (r ∷ rs) = ap (λ vs. r.value ∷ vs) (held_pairs rs)
+pub row_put : (es fs : List (DocKey × Entry)) (row : Box KeyEntry) (store : ℕ) (key : List ℕ) (entry : Entry) → fs ≡ finite.put key_cmp (key_of row) row.value.entry es → row.value ≡ record { store = store; key = key; entry = entry }
+    → fs ≡ finite.put key_cmp (key_at store key) entry es
+row_put es fs row store key entry put is = put ∙ ap (λ (v : KeyEntry). finite.put key_cmp (key_at v.store v.key) v.entry es) is

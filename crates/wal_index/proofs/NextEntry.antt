@@ -31,7 +31,7 @@ not_below a b o h =
       | false ↦ λ t. ltb-false b a t
     ] refl
 
-stores_rise : (a b : DocKey) → is_gt (key_cmp a b) ≡ false → a.store ≤ b.store
+pub stores_rise : (a b : DocKey) → is_gt (key_cmp a b) ≡ false → a.store ≤ b.store
 stores_rise a b h = not_below a.store b.store (slice_cmp nat_cmp a.key b.key) h
 
 stores_fall : (a b : DocKey) → is_lt (key_cmp a b) ≡ false → b.store ≤ a.store

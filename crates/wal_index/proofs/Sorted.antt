@@ -1,7 +1,7 @@
 -- Lists whose keys rise: what stands where, and what a new entry does.
 use Rattle.std.proofs.Common.{◌≡◌, ℕ, zero, suc, ◌<◌, ◌≤◌, ◌+◌, Bool, true, false, cond, ◌&&◌, T, List, [], ◌∷◌, ◌++◌, length, take, drop, map, filter, refl, sym, ap, ◌∙◌, subst, arith, get_or}
 use Rattle.std.proofs.Math.ListN.{set}
-use Rattle.std.specs.Prelude.{Some, None, not}
+use Rattle.std.specs.Prelude.{Some, None, is_some, not}
 use Rattle.std.specs.Cmp.{IsTotalOrder, alike_right, tied_back}
 use Rattle.std.specs.FinMap as finite
 use Rattle.std.specs.FinMap.Entries.{by_order, below_all}
@@ -9,18 +9,25 @@ use Rattle.std.specs.Ordering.{is_lt, is_eq, ordering_index, ordering_reverse}
 use Rattle.std.specs.declared.cmp.Ordering.{Ordering}
 use Rattle.std.specs.declared.cmp.Ordering.TheVariants.{Less, Equal, Greater}
 
-first : (a b : Bool) → T (a && b) → T a
+pub first : (a b : Bool) → T (a && b) → T a
 first true b p = tt
 first false b p = p
 
-second : (a b : Bool) → T (a && b) → T b
+pub second : (a b : Bool) → T (a && b) → T b
 second true b p = p
 second false b p = absurd p
 
-less : (o : Ordering) → T (is_lt o) → o ≡ Less
+pub both : (a b : Bool) → T a → T b → T (a && b)
+both true b p q = q
+both false b p q = p
+
+pub less : (o : Ordering) → T (is_lt o) → o ≡ Less
 less Less p = refl
 less Equal p = absurd p
 less Greater p = absurd p
+
+pub below : (o : Ordering) → o ≡ Less → T (is_lt o)
+below o is = subst (λ r. T (is_lt r)) (sym is) tt
 
 module _ {K X A : Type 0} (R : K → K → Ordering) (f : A → K × X) where
   -- ---- what stands where
@@ -33,6 +40,14 @@ module _ {K X A : Type 0} (R : K → K → Ordering) (f : A → K × X) where
   found_at q (a ∷ rs) (suc i) r within here before is =
       ap (λ o. cond (is_eq o) (Some (f a).1) (finite.find R q (map f rs))) (before 0 a (omega arith))
       ∙ found_at q rs i r (omega arith) here (λ j d l. before (suc j) d (omega arith)) is
+
+  pub found_there : (q : K) (rs : List A) (i : ℕ) → i < length rs → ((d : A) → R q (f (get_or rs i d)).0 ≡ Equal) → ((j : ℕ) (d : A) → j < i → R q (f (get_or rs j d)).0 ≡ Greater)
+      → is_some (finite.find R q (map f rs)) ≡ true
+  found_there q [] i within here before = absurd (omega arith)
+  found_there q (a ∷ rs) zero within here before = ap (λ o. is_some (cond (is_eq o) (Some (f a).1) (finite.find R q (map f rs)))) (here a)
+  found_there q (a ∷ rs) (suc i) within here before =
+      ap (λ o. is_some (cond (is_eq o) (Some (f a).1) (finite.find R q (map f rs)))) (before 0 a (omega arith))
+      ∙ found_there q rs i (omega arith) here (λ j d l. before (suc j) d (omega arith))
 
   pub found_nowhere : (q : K) (rs : List A) (i : ℕ) → ((j : ℕ) (d : A) → j < i → R q (f (get_or rs j d)).0 ≡ Greater) → ((j : ℕ) (d : A) → i ≤ j → j < length rs → R q (f (get_or rs j d)).0 ≡ Less)
       → finite.find R q (map f rs) ≡ None

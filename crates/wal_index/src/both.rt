@@ -2,10 +2,11 @@ ghost use Rattle.std.specs.Prelude.{◌≡◌, ◌≤◌, ◌+◌, ◌<◌, vec_
 ghost use Rattle.std.specs.FinMap as finite;
 ghost use Rattle.forest_model.specs.Key.{key_cmp};
 ghost use Rattle.wal_index.specs.Numbers.{numbers_at, marks, AreNumbersSorted, Agree, without_older};
-ghost use Rattle.wal_index.specs.Rows.{pairs, pair_of, AreSorted};
+ghost use Rattle.wal_index.specs.Merged.{AreRows, all_pairs};
+ghost use Rattle.wal_index.specs.Rows.{pair_of};
 
-use crate::by_key::{Rows, get, put};
 use crate::by_number::{Numbered, Numbers, put_number, remove_number};
+use crate::rows::Rows;
 use forest_model::{Entry, KeyEntry};
 
 // Removes the number of a key's older entry, where there is one.
@@ -27,22 +28,23 @@ pub(crate) fn put_both(
     row: Box<KeyEntry>,
     number: Box<Numbered>,
 )
-    requires sorted { AreSorted rows.old.items }
+    requires sorted { AreRows rows.old.settled.items rows.old.recent.items }
     requires numbers_sorted { AreNumbersSorted numbers.old.items }
-    requires agree { Agree (pairs rows.old.items) (marks numbers.old.items) }
-    requires room { vec_len rows.old < vec_capacity rows.old }
+    requires agree { Agree (all_pairs rows.old.settled.items rows.old.recent.items) (marks numbers.old.items) }
+    requires room { vec_len rows.old.recent < vec_capacity rows.old.recent }
     requires numbers_room { vec_len numbers.old < vec_capacity numbers.old }
     requires same { number.value ≡ numbers_at row.value.store row.value.entry.seq row.value.key }
-    ensures put { pairs rows.new.items ≡ finite.put key_cmp (pair_of row).0 (pair_of row).1 (pairs rows.old.items) }
-    ensures capacity { vec_capacity rows.old ≤ vec_capacity rows.new }
-    ensures len { vec_len rows.new ≤ vec_len rows.old + 1 }
+    ensures sorted { AreRows rows.new.settled.items rows.new.recent.items }
+    ensures put { all_pairs rows.new.settled.items rows.new.recent.items ≡ finite.put key_cmp (pair_of row).0 (pair_of row).1 (all_pairs rows.old.settled.items rows.old.recent.items) }
+    ensures capacity { vec_capacity rows.old.recent ≤ vec_capacity rows.new.recent }
+    ensures len { vec_len rows.new.recent ≤ vec_len rows.old.recent + 1 }
     ensures numbers_sorted { AreNumbersSorted numbers.new.items }
     ensures numbers_capacity { vec_capacity numbers.old ≤ vec_capacity numbers.new }
     ensures numbers_len { vec_len numbers.new ≤ vec_len numbers.old + 1 }
-    ensures agree { Agree (pairs rows.new.items) (marks numbers.new.items) }
+    ensures agree { Agree (all_pairs rows.new.settled.items rows.new.recent.items) (marks numbers.new.items) }
 {
-    let older = get(rows.as_slice(), row.store, row.key.as_slice());
+    let older = rows.get(row.store, row.key.as_slice());
     remove_older(numbers, older, row.store, row.key.as_slice());
-    put(rows, row);
+    rows.put(row);
     put_number(numbers, number);
 }

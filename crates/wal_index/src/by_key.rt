@@ -1,4 +1,4 @@
-ghost use Rattle.std.specs.Prelude.{◌≡◌, ◌≤◌, ◌+◌, ◌<◌, length, not, ◌==◌, filter, MatchResult, IfOk, IfErr, OnErr, Some, None, vec_len, vec_capacity};
+ghost use Rattle.std.specs.Prelude.{◌≡◌, ◌≤◌, ◌+◌, ◌<◌, length, not, ◌==◌, filter, MatchResult, true, is_some, IfSome, IfNone, IfOk, IfErr, OnErr, Some, None, vec_len, vec_capacity};
 ghost use Rattle.std.specs.Option.{option_map};
 ghost use Rattle.std.specs.FinMap as finite;
 ghost use Rattle.forest_model.specs.Key.{key_cmp};
@@ -9,9 +9,10 @@ ghost use Rattle.wal_index.specs.Rows.{pairs, pair_of, AreSorted, key_of};
 use forest_model::{Entry, KeyEntry};
 use std::cmp::Ordering;
 
-pub(crate) type Rows = Vec<Box<KeyEntry>>;
+/// Rows in the order of store and key.
+pub(crate) type RowList = Vec<Box<KeyEntry>>;
 
-fn compare(row: &KeyEntry, store: u64, key: &[u8]) -> Ordering
+pub(crate) fn compare(row: &KeyEntry, store: u64, key: &[u8]) -> Ordering
     ensures { result ≡ key_cmp (key_at row.now.store row.now.key) (key_at store key.now) }
 {
     row.store.cmp(&store).then(row.key.as_slice().cmp(key))
@@ -37,7 +38,7 @@ pub(crate) fn get(rows: &[Box<KeyEntry>], store: u64, key: &[u8]) -> Option<Entr
 }
 
 // Puts a row in the place of that of its key, or where it belongs. There is capacity for it.
-pub(crate) fn put(rows: &mut Rows, row: Box<KeyEntry>)
+pub(crate) fn put(rows: &mut RowList, row: Box<KeyEntry>)
     requires sorted { AreSorted rows.old.items }
     requires room { vec_len rows.old < vec_capacity rows.old }
     ensures put { pairs rows.new.items ≡ finite.put key_cmp (pair_of row).0 (pair_of row).1 (pairs rows.old.items) }
@@ -52,8 +53,26 @@ pub(crate) fn put(rows: &mut Rows, row: Box<KeyEntry>)
     }
 }
 
+// Puts a row in the place of that of its key, or gives it back where there is none.
+pub(crate) fn replace(rows: &mut RowList, row: Box<KeyEntry>) -> Option<Box<KeyEntry>>
+    requires { AreSorted rows.old.items }
+    ensures put { IfNone result (pairs rows.new.items ≡ finite.put key_cmp (pair_of row).0 (pair_of row).1 (pairs rows.old.items)) }
+    ensures found { IfNone result (is_some (finite.find key_cmp (pair_of row).0 (pairs rows.old.items)) ≡ true) }
+    ensures back { IfSome result (λ same. same.value ≡ row.value) }
+    ensures kept { IfSome result (λ _. rows.new.items ≡ rows.old.items) }
+    ensures absent { IfSome result (λ _. finite.find key_cmp (pair_of row).0 (pairs rows.old.items) ≡ None) }
+{
+    match place(rows.as_slice(), row.store, row.key.as_slice()) {
+        Ok(at) => {
+            rows[at] = row;
+            None
+        }
+        Err(_) => Some(row),
+    }
+}
+
 // Removes the rows of a store.
-pub(crate) fn remove_store(rows: &mut Rows, store: u64)
+pub(crate) fn remove_store(rows: &mut RowList, store: u64)
     ensures removed { pairs rows.new.items ≡ filter (λ e. not (e.0.store == store)) (pairs rows.old.items) }
     ensures capacity { vec_capacity rows.old ≤ vec_capacity rows.new }
     ensures len { vec_len rows.new ≤ vec_len rows.old }

@@ -1,10 +1,13 @@
-ghost use Rattle.std.specs.Prelude.{◌≡◌, IfOk, OnErr};
+ghost use Rattle.std.specs.Prelude.{◌≡◌, length, map, IfOk, OnErr};
 ghost use Rattle.forest_model.specs.declared.refusal.Refusal.TheVariants as Refusal;
 ghost use Rattle.wal_index.specs.Numbers.{marks};
+ghost use Rattle.wal_index.specs.Merged.{AreRows, all_pairs};
+ghost use Rattle.wal_index.specs.Index.{key_entry};
 ghost use Rattle.wal_index.specs.Rows.{held};
 
-use crate::by_key::Rows;
+use crate::by_key::RowList;
 use crate::by_number::{Numbered, Numbers};
+use crate::in_order::InOrder;
 use forest_model::{KeyEntry, Refusal};
 use std::alloc::Global;
 
@@ -19,26 +22,40 @@ fn copy_of(row: &KeyEntry) -> Result<KeyEntry, Refusal>
     })
 }
 
-// A list of copies of the rows.
-pub(crate) fn list_of(alloc: Global, rows: &[Box<KeyEntry>]) -> Result<Vec<KeyEntry>, Refusal>
-    ensures list { IfOk result (λ list. list.items ≡ held rows.now) }
+// A list of copies of the rows, in order.
+pub(crate) fn list_of(
+    alloc: Global,
+    settled: &[Box<KeyEntry>],
+    recent: &[Box<KeyEntry>],
+) -> Result<Vec<KeyEntry>, Refusal>
+    requires { AreRows settled.now recent.now }
+    ensures list { IfOk result (λ list. list.items ≡ map key_entry (all_pairs settled.now recent.now)) }
     ensures memory { OnErr result (result ≡ Err Refusal.NoMemory) }
 {
-    let mut list = Vec::with_capacity(alloc, rows.len())?;
-    for row in rows {
-        list.push(copy_of(row)?)?;
+    let mut left = InOrder { settled, recent };
+    let count = settled.len() + recent.len();
+    let mut list = Vec::with_capacity(alloc, count)?;
+    for _ in 0..count {
+        list.push(copy_of(left.take_first())?)?;
     }
     Ok(list)
 }
 
-// Copies of the rows.
-pub(crate) fn rows_of(alloc: Global, rows: &[Box<KeyEntry>]) -> Result<Rows, Refusal>
-    ensures rows { IfOk result (λ copies. held copies.items ≡ held rows.now) }
+// Copies of the rows, in order.
+pub(crate) fn rows_of(
+    alloc: Global,
+    settled: &[Box<KeyEntry>],
+    recent: &[Box<KeyEntry>],
+) -> Result<RowList, Refusal>
+    requires { AreRows settled.now recent.now }
+    ensures rows { IfOk result (λ copies. held copies.items ≡ map key_entry (all_pairs settled.now recent.now)) }
     ensures memory { OnErr result (result ≡ Err Refusal.NoMemory) }
 {
-    let mut copies = Vec::with_capacity(alloc, rows.len())?;
-    for row in rows {
-        copies.push(Box::new(alloc, copy_of(row)?)?)?;
+    let mut left = InOrder { settled, recent };
+    let count = settled.len() + recent.len();
+    let mut copies = Vec::with_capacity(alloc, count)?;
+    for _ in 0..count {
+        copies.push(Box::new(alloc, copy_of(left.take_first())?)?)?;
     }
     Ok(copies)
 }

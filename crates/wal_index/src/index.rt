@@ -1,17 +1,17 @@
-ghost use Rattle.std.specs.Prelude.{◌≡◌, ℕ, List, ◌≤◌, ◌<◌, [], true, false, length, IfSome, IfNone, IfOk, OnOk, OnErr};
+ghost use Rattle.std.specs.Prelude.{◌≡◌, ℕ, List, ◌≤◌, ◌<◌, ◌-◌, ◌^◌, min, [], true, false, length, IfSome, IfNone, IfOk, OnOk, OnErr};
 ghost use Rattle.std.specs.Option.{option_map};
 ghost use Rattle.std.specs.FinMap as finite;
 ghost use Rattle.forest_model.specs.declared.refusal.Refusal.TheVariants as Refusal;
 ghost use Rattle.wal_index.specs.Index.{Index, IsNearestNumber, entry_at, has_number, is_past_number, key_at, key_and_entry, nearest, nothing, with_entry, without_store, in_order};
+ghost use Rattle.wal_index.specs.Live.{own_live};
 
 use crate::both::put_both;
-use crate::by_key::{Rows, get, remove_store};
 use crate::by_number::{Numbers, remove_numbers_of};
 use crate::copies::{list_of, numbers_of, rows_of};
-use crate::nearest::{next_down, next_up};
 use crate::nearest_number::next_number;
 use crate::numbered::key_of;
 use crate::room::Room;
+use crate::rows::Rows;
 use forest_model::{Entries, Entry, Refusal, Sequence};
 use std::alloc::Global;
 use std::marker::Model;
@@ -34,15 +34,15 @@ impl Model for WalIndex {
     ghost use Rattle.std.specs.FinMap as finite;
     ghost use Rattle.wal_index.specs.Index.{Index, coded_index};
     ghost use Rattle.wal_index.specs.Numbers.{marks, AreNumbersSorted, Agree};
-    ghost use Rattle.wal_index.specs.Rows.{pairs, AreSorted};
+    ghost use Rattle.wal_index.specs.Merged.{AreRows, all_pairs};
 
     ghost Value = { Index };
 
     ghost coded = { coded_index };
 
-    ghost view = { λ x. record { entries = finite.from_sorted (pairs x.rows.items); gone = x.gone.items; room = x.room; may_go = x.may_go } };
+    ghost view = { λ x. record { entries = finite.from_sorted (all_pairs x.rows.settled.items x.rows.recent.items); gone = x.gone.items; room = x.room; may_go = x.may_go } };
 
-    ghost invariant = { λ x. AreSorted x.rows.items × (vec_len x.rows + x.room ≤ vec_capacity x.rows) × (x.may_go ≡ true → vec_len x.gone < vec_capacity x.gone) × AreNumbersSorted x.numbers.items × (vec_len x.numbers + x.room ≤ vec_capacity x.numbers) × Agree (pairs x.rows.items) (marks x.numbers.items) };
+    ghost invariant = { λ x. AreRows x.rows.settled.items x.rows.recent.items × (vec_len x.rows.recent + x.room ≤ vec_capacity x.rows.recent) × (x.may_go ≡ true → vec_len x.gone < vec_capacity x.gone) × AreNumbersSorted x.numbers.items × (vec_len x.numbers + x.room ≤ vec_capacity x.numbers) × Agree (all_pairs x.rows.settled.items x.rows.recent.items) (marks x.numbers.items) };
 }
 
 impl WalIndex {
@@ -51,7 +51,7 @@ impl WalIndex {
         ensures { result ≡ record { entries = nothing; gone = []; room = 0; may_go = false } }
     {
         WalIndex {
-            rows: Vec::new(alloc),
+            rows: Rows::new(alloc),
             numbers: Vec::new(alloc),
             gone: Vec::new(alloc),
             room: 0,
@@ -72,7 +72,7 @@ impl WalIndex {
     {
         let room = Room::of(self.alloc, key)?;
         if self.room < spare {
-            self.rows.reserve(spare as usize)?;
+            self.rows.reserve(self.alloc, spare as usize)?;
             self.numbers.reserve(spare as usize)?;
             self.room = spare;
         }
@@ -93,7 +93,7 @@ impl WalIndex {
     pub fn get(&self, store: u64, key: &[u8]) -> Option<Entry>
         ensures { result ≡ entry_at self.now.entries store key.now }
     {
-        get(self.rows.as_slice(), store, key)
+        self.rows.get(store, key)
     }
 
     /// The key of a store whose newest entry has this number.
@@ -114,11 +114,7 @@ impl WalIndex {
     ) -> Option<(&'a [u8], Entry)>
         ensures { option_map {U = List ℕ × Entry} (λ r. (r.0.now, r.1)) result ≡ option_map key_and_entry (nearest with up self.now.entries (key_at store key.now)) }
     {
-        if up {
-            next_up(self.rows.as_slice(), store, key, with)
-        } else {
-            next_down(self.rows.as_slice(), store, key, with)
-        }
+        self.rows.next(store, key, with, up)
     }
 
     /// The nearest number of a newest entry of the store above or below this one, or this one itself if `with`, and a key
@@ -134,7 +130,14 @@ impl WalIndex {
     pub fn len(&self) -> u64
         ensures { result ≡ finite.len self.now.entries }
     {
-        self.rows.len() as u64
+        self.rows.len()
+    }
+
+    /// The bytes of the live records of a store's keys, capped at the last value of a u64.
+    pub fn live_of(&self, store: u64) -> u64
+        ensures { result ≡ min (own_live store self.now.entries) (2 ^ 64 - 1) }
+    {
+        self.rows.live_of(store)
     }
 
     /// Makes room for one store that goes.
@@ -153,7 +156,7 @@ impl WalIndex {
         requires { self.old.may_go ≡ true }
         ensures { self.new ≡ without_store self.old store }
     {
-        remove_store(&mut self.rows, store);
+        self.rows.remove_store(store);
         remove_numbers_of(&mut self.numbers, store);
         let _room = self.gone.push(store);
         self.may_go = false;
@@ -165,7 +168,11 @@ impl WalIndex {
         ensures gone { IfOk result (λ all. all.gone ≡ self.now.gone) }
         ensures memory { OnErr result (result ≡ Err Refusal.NoMemory) }
     {
-        let keys = list_of(self.alloc, self.rows.as_slice())?;
+        let keys = list_of(
+            self.alloc,
+            self.rows.settled.as_slice(),
+            self.rows.recent.as_slice(),
+        )?;
         let gone = Vec::from_slice(self.alloc, self.gone.as_slice())?;
         Ok(Entries {
             keys: Sequence::from_vec(keys),
@@ -179,11 +186,15 @@ impl WalIndex {
         ensures kept { self.new ≡ self.old }
         ensures memory { OnErr result (result ≡ Err Refusal.NoMemory) }
     {
-        let rows = rows_of(self.alloc, self.rows.as_slice())?;
+        let settled = rows_of(
+            self.alloc,
+            self.rows.settled.as_slice(),
+            self.rows.recent.as_slice(),
+        )?;
         let numbers = numbers_of(self.alloc, self.numbers.as_slice())?;
         let gone = Vec::from_slice(self.alloc, self.gone.as_slice())?;
         Ok(WalIndex {
-            rows,
+            rows: Rows::of_settled(self.alloc, settled),
             numbers,
             gone,
             room: 0,

@@ -2,22 +2,29 @@
 //!
 //! It promises that it is a finite map from store and key to entry, that it answers the nearest key and the nearest
 //! number of a store in both directions and the key of a number, and that want of memory leaves what it holds. `put` and
-//! `gone` can't fail: `room` and `reserve_gone` take their memory before.
+//! `gone` can't fail: `room` and `reserve_gone` take their memory before. The rows of new keys stand in a short list of
+//! their own, which `room` merges into the long one at times: so a put moves few rows.
 #![tactic(auto)]
 
 mod both;
 mod by_key;
 mod by_number;
 mod copies;
+mod in_order;
 mod index;
+mod live;
+mod merge;
 mod nearest;
 mod nearest_number;
 mod numbered;
 mod room;
+mod rows;
 
 pub use index::WalIndex;
 pub use room::Room;
 
+#[cfg(test)]
+mod many;
 #[cfg(test)]
 mod tests;
 #[cfg(test)]

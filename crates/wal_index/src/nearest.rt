@@ -1,6 +1,9 @@
-ghost use Rattle.std.specs.Prelude.{◌≡◌, ℕ, List, slice_get, false, true};
+ghost use Rattle.std.specs.Prelude.{◌≡◌, ℕ, List, slice_get, false, true, if◌then◌else◌};
 ghost use Rattle.std.specs.Option.{option_map};
 ghost use Rattle.wal_index.specs.Index.{key_at, key_and_entry, is_past, nearest_of};
+ghost use Rattle.std.specs.Ordering.{nat_cmp, is_lt, is_gt};
+ghost use Rattle.std.specs.Cmp.Lexicographic.{slice_cmp};
+ghost use Rattle.wal_index.specs.Merged.{nearer as nearer_of};
 ghost use Rattle.wal_index.specs.Rows.{pairs, AreSorted, IsBorder, pair_of, of_store};
 
 use crate::by_key::place;
@@ -30,7 +33,7 @@ fn row_of_store(rows: &[Box<KeyEntry>], at: usize, store: u64) -> Option<(&[u8],
 }
 
 // The nearest row of the store behind a key.
-pub(crate) fn next_up<'a>(
+fn next_up<'a>(
     rows: &'a [Box<KeyEntry>],
     store: u64,
     key: &[u8],
@@ -44,7 +47,7 @@ pub(crate) fn next_up<'a>(
 }
 
 // The nearest row of the store before a key.
-pub(crate) fn next_down<'a>(
+fn next_down<'a>(
     rows: &'a [Box<KeyEntry>],
     store: u64,
     key: &[u8],
@@ -58,4 +61,50 @@ pub(crate) fn next_down<'a>(
         return None;
     }
     row_of_store(rows, count - 1, store)
+}
+
+// The nearest row of the store behind a key, or before it.
+pub(crate) fn next_in<'a>(
+    rows: &'a [Box<KeyEntry>],
+    store: u64,
+    key: &[u8],
+    with: bool,
+    up: bool,
+) -> Option<(&'a [u8], Entry)>
+    requires { AreSorted rows.now }
+    ensures { option_map {U = List ℕ × Entry} (λ r. (r.0.now, r.1)) result ≡ option_map key_and_entry (nearest_of with up (pairs rows.now) (key_at store key.now)) }
+{
+    if up {
+        next_up(rows, store, key, with)
+    } else {
+        next_down(rows, store, key, with)
+    }
+}
+
+fn is_nearer(key: &[u8], other: &[u8], up: bool) -> bool
+    ensures { result ≡ (if up then is_lt (slice_cmp nat_cmp key.now other.now) else is_gt (slice_cmp nat_cmp key.now other.now)) }
+{
+    let order = key.cmp(other);
+    if up { order.is_lt() } else { order.is_gt() }
+}
+
+// The nearer of two rows of one store, where both are there.
+pub(crate) fn nearer<'a>(
+    row: Option<(&'a [u8], Entry)>,
+    other: Option<(&'a [u8], Entry)>,
+    up: bool,
+) -> Option<(&'a [u8], Entry)>
+    ensures { option_map {U = List ℕ × Entry} (λ r. (r.0.now, r.1)) result ≡ nearer_of (slice_cmp nat_cmp) up (option_map (λ r. (r.0.now, r.1)) row.entry) (option_map (λ r. (r.0.now, r.1)) other.entry) }
+{
+    match (row, other) {
+        (None, _) => other,
+        (_, None) => row,
+        (Some((key, _)), Some((other_key, _))) => {
+            if is_nearer(key, other_key, up) {
+                row
+            } else {
+                other
+            }
+        }
+    }
 }

@@ -3,13 +3,17 @@ use forest_model::{Entry, Refusal};
 use std::alloc::Global;
 use std::test::*;
 
-fn entry(seq: u64, live: bool) -> Entry {
+fn with_len(seq: u64, live: bool, len: u64) -> Entry {
     Entry {
         seq,
         address: seq,
         live,
-        len: 32,
+        len,
     }
+}
+
+fn entry(seq: u64, live: bool) -> Entry {
+    with_len(seq, live, 32)
 }
 
 fn put(index: &mut WalIndex, store: u64, key: &[u8], entry: Entry) -> Result<(), Refusal> {
@@ -70,6 +74,29 @@ fn the_key_of_a_number(rt: HostRuntime) -> Result<(), Fail> {
     let index = filled(rt.alloc())?;
     assert_eq!(rt; index.by_seq(1, 3), Some(b"b".as_slice()));
     assert_eq!(rt; index.by_seq(1, 1), None);
+    Ok(())
+}
+
+// Store 2 has a live and a deleted entry, store 4 a deleted one alone, and store 5 more than a u64 holds.
+#[test]
+fn the_live_bytes_of_a_store(rt: HostRuntime) -> Result<(), Fail> {
+    let mut index = filled(rt.alloc())?;
+    put(&mut index, 2, b"a", with_len(1, true, 7))?;
+    put(&mut index, 2, b"b", with_len(2, false, 9))?;
+    put(&mut index, 4, b"", with_len(1, false, 5))?;
+    put(&mut index, 5, b"a", with_len(1, true, u64::MAX))?;
+    put(&mut index, 5, b"b", with_len(2, true, 1))?;
+    for (store, live) in [
+        (0, 32),
+        (1, 64),
+        (2, 7),
+        (3, 0),
+        (4, 0),
+        (5, u64::MAX),
+        (u64::MAX, 0),
+    ] {
+        assert_eq!(rt; index.live_of(store), live);
+    }
     Ok(())
 }
 
