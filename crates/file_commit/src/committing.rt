@@ -1,4 +1,4 @@
-ghost use Rattle.std.specs.Prelude.{◌≡◌, ◌+◌, ◌^◌, ◌≤◌, ◌||◌, ◌⊎◌, [], ℕ, IsTrue, Some, Err, OnOk, false};
+ghost use Rattle.std.specs.Prelude.{◌≡◌, ◌+◌, ◌^◌, ◌≤◌, ◌||◌, ◌⊎◌, [], ℕ, IsTrue, Some, Err, OnOk, false, ◌≢◌};
 ghost use Rattle.block_host.specs.Order.{IsSettled};
 ghost use Rattle.forest_model.specs.Blocks.{File};
 ghost use Rattle.forest_model.specs.declared.refusal.Refusal.TheVariants as Refusal;
@@ -38,7 +38,7 @@ pub fn commit<H: Host>(file: &mut FileState<H>, at: &StoreRef) -> Result<u64, Re
     ensures aside { IsTrue H.tells → Aside file.old.parts.revision (H.disk file.old.parts.host) (H.disk file.new.parts.host) }
     ensures view_count { H.View.faults file.new.parts.view ≡ H.View.faults file.old.parts.view }
     ensures counts { H.faults file.old.parts.host ≤ H.faults file.new.parts.host }
-    ensures untroubled { OnOk result (H.faults file.new.parts.host ≡ H.faults file.old.parts.host) }
+    ensures untroubled { result ≢ Err Refusal.DiskFault → H.faults file.new.parts.host ≡ H.faults file.old.parts.host }
     ensures halts { result ≡ Err Refusal.DiskFault → file.new.parts.stopped ≡ Some (H.faults file.new.parts.host) }
 {
     rules();
@@ -61,7 +61,7 @@ fn commit_in<H: Host>(parts: &mut Parts<H>, at: &StoreRef) -> Result<u64, Refusa
     ensures aside { IsTrue H.tells → Aside parts.old.revision (H.disk parts.old.host) (H.disk parts.new.host) }
     ensures view_count { H.View.faults parts.new.view ≡ H.View.faults parts.old.view }
     ensures counts { H.faults parts.old.host ≤ H.faults parts.new.host }
-    ensures untroubled { OnOk result (H.faults parts.new.host ≡ H.faults parts.old.host) }
+    ensures untroubled { result ≢ Err Refusal.DiskFault → H.faults parts.new.host ≡ H.faults parts.old.host }
     ensures halts { result ≡ Err Refusal.DiskFault → parts.new.stopped ≡ Some (H.faults parts.new.host) }
 {
     if at.read_only {
@@ -100,7 +100,7 @@ fn commit_new<H: Host>(parts: &mut Parts<H>, stores: Stores) -> Result<u64, Refu
     ensures aside { IsTrue H.tells → Aside parts.old.revision (H.disk parts.old.host) (H.disk parts.new.host) }
     ensures view_count { H.View.faults parts.new.view ≡ H.View.faults parts.old.view }
     ensures counts { H.faults parts.old.host ≤ H.faults parts.new.host }
-    ensures untroubled { OnOk result (H.faults parts.new.host ≡ H.faults parts.old.host) }
+    ensures untroubled { result ≢ Err Refusal.DiskFault → H.faults parts.new.host ≡ H.faults parts.old.host }
     ensures halts { result ≡ Err Refusal.DiskFault → parts.new.stopped ≡ Some (H.faults parts.new.host) }
 {
     let header = next_header(parts, stores);

@@ -9,6 +9,10 @@ pub mod Removed
 pub mod Written
 pub mod Deleted
 pub mod DeleteDone
+pub mod BatchCauses
+pub mod BatchBytes
+pub mod BatchTurns
+pub mod Batched
 pub mod Numbered
 pub mod Lookups
 pub mod Standing
@@ -21,3 +25,6 @@ pub mod StoreSums
 pub mod StoreLeft
 pub mod StoreLess
 pub mod StoreGone
+pub mod BatchItems
+pub mod BatchPut
+pub mod BatchDone

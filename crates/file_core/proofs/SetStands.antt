@@ -51,7 +51,7 @@ PutStands = (revision : ℕ) (r : Rec) (before after : OpenBlock) (file grown : 
 
 -- ---- numbers
 
-counted_is : (od : Option Doc) (b : Bool) (n c c' : ℕ) → b ≡ is_some od → n ≡ c → c < 2 ^ 63 → c' + option_map_or (λ _. 1) od 0 ≡ c + 1 → (if b then n else min (n + 1) (2 ^ 64 - 1)) ≡ c'
+pub counted_is : (od : Option Doc) (b : Bool) (n c c' : ℕ) → b ≡ is_some od → n ≡ c → c < 2 ^ 63 → c' + option_map_or (λ _. 1) od 0 ≡ c + 1 → (if b then n else min (n + 1) (2 ^ 64 - 1)) ≡ c'
 counted_is None b n c c' lives same small more = ap (λ (t : Bool). if t then n else min (n + 1) (2 ^ 64 - 1)) lives ∙ omega (arith, same, small, more)
 counted_is (Some d) b n c c' lives same small more = ap (λ (t : Bool). if t then n else min (n + 1) (2 ^ 64 - 1)) lives ∙ omega (arith, same, more)
 

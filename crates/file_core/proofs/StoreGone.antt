@@ -1,11 +1,10 @@
 -- The file stands for the state after the removal of a store.
-use Rattle.std.proofs.Common.{◌≡◌, ◌≢◌, ℕ, ◌+◌, ◌-◌, ◌*◌, ◌/◌, ◌%◌, ◌^◌, ◌≤◌, ◌<◌, Bool, true, false, List, [], ◌∷◌, ◌++◌, length, map, Option, Some, None, Ok, Err, refl, sym, ap, subst, ◌∙◌, arith, inl, inr}
-use Rattle.std.specs.Prelude.{IsTrue, is_none, min, not, ◌||◌, ◌==◌, codes, nat_eq, nat_lt, MatchBool, MatchOption, MatchResult, Result}
+use Rattle.std.proofs.Common.{◌≡◌, ◌≢◌, ℕ, ◌+◌, ◌-◌, ◌/◌, ◌^◌, ◌≤◌, Bool, true, false, List, [], ◌∷◌, ◌++◌, length, map, Option, Some, None, Ok, Err, refl, sym, ap, subst, ◌∙◌, arith, inl, inr}
+use Rattle.std.specs.Prelude.{is_none, min, not, ◌||◌, codes, nat_eq, nat_lt, MatchBool, MatchOption, Result}
 use Rattle.std.specs.Cmp.Lexicographic.{pointwise}
 use Rattle.std.specs.FinMap as finite
 use Rattle.std.specs.Option.{option_map, option_map_or}
 use Rattle.std.proofs.lemmas.Bool.{eq-eqb, true≢false}
-use Rattle.std.proofs.lemmas.Option.{none-some, same_Some}
 use Rattle.block_host.specs.Disk.{Disk}
 use Rattle.block_host.specs.declared.block.Block.{Block}
 use Rattle.doc_stream.specs.Records.{record_bytes}
@@ -28,10 +27,11 @@ use Rattle.forest_model.specs.declared.stored.Entry.{Entry}
 use Rattle.forest_model.specs.declared.stored.Rec.{Rec}
 use Rattle.kvs_names.specs.Table as tables
 use Rattle.model_laws.specs.Laws.{RulesStay, RecordsKeepHeader}
+use Rattle.wal_index.specs.Live.{own_live}
 use Rattle.file_core.specs.Held.{Held}
 use Rattle.file_core.specs.Setting.{blocks_needed, OnlyMemory}
 use Rattle.file_core.specs.Stands.{Stands, AreDocuments, DrawNumbers, row_in}
-use Rattle.file_core.specs.StoreChanges.{id_named, gone_of, own_live, remove_causes, RemovesStore, RemoveGives, RemoveAnswers}
+use Rattle.file_core.specs.StoreChanges.{id_named, gone_of, remove_causes, RemovesStore, RemoveGives, RemoveAnswers}
 use Rattle.file_core.specs.Updates.{Moment, StandsAt, IsFile, UpdatesAs, bytes_of}
 use Rattle.file_core.proofs.SetBlocks.{length-record}
 use Rattle.file_core.proofs.SetCauses.{none_holds, unmet, refused_first, answered_last}

@@ -1,6 +1,6 @@
 -- What the steps of a removal leave together.
-use Rattle.std.proofs.Common.{◌≡◌, ℕ, ◌+◌, ◌-◌, ◌^◌, List, [], length, sym, ap, subst, ◌∙◌, Bool}
-use Rattle.std.specs.Prelude.{IsTrue, true, min, not, ◌==◌, None}
+use Rattle.std.proofs.Common.{◌≡◌, ℕ, ◌+◌, ◌-◌, ◌^◌, [], length, sym, ap, subst, ◌∙◌, Bool}
+use Rattle.std.specs.Prelude.{true, min, not, ◌==◌, None}
 use Rattle.std.specs.FinMap as finite
 use Rattle.doc_stream.specs.OpenBlock.{OpenBlock, PutsBytes}
 use Rattle.doc_stream.specs.Records.{record_bytes}
@@ -9,8 +9,9 @@ use Rattle.forest_model.specs.declared.stored.Rec.{Rec}
 use Rattle.kvs_names.specs.Answers.{remove_causes as why_not_removed}
 use Rattle.kvs_names.specs.Table.{without}
 use Rattle.wal_index.specs.Index.{Index}
+use Rattle.wal_index.specs.Live.{own_live}
 use Rattle.file_core.specs.Held.{Held}
-use Rattle.file_core.specs.StoreChanges.{gone_of, own_live, PutsRecord, RemovesStore}
+use Rattle.file_core.specs.StoreChanges.{gone_of, PutsRecord, RemovesStore}
 use Rattle.file_core.specs.Updates.{Moment}
 
 -- the memory is taken, the record is put, and then all else is changed

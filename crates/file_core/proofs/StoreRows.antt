@@ -42,7 +42,7 @@ found_id (t ∷ stores) k s e = by (t.id == k) refl e (found_id stores k s) wher
   by true is f later = ap (λ (x : Store). x.id) (sym (same_Some t s f)) ∙ eqb-true t.id k is
   by false is f later = later f
 
-id-at_seq : (id seq : ℕ) (s : Store) → (at_seq id seq s).id ≡ s.id
+pub id-at_seq : (id seq : ℕ) (s : Store) → (at_seq id seq s).id ≡ s.id
 id-at_seq id seq s = by (s.id == id) where
   by : (b : Bool) → (cond b (record s { seq = seq }) s).id ≡ s.id
   by true = refl

@@ -4,7 +4,7 @@ use Rattle.std.specs.Prelude.{sum_by, IsTrue, ◌==◌, not, filter, count_by, T
 use Rattle.std.specs.FinMap as finite
 use Rattle.std.specs.FinMap.Entries.{below_all, is_sorted-where_key, find-where_key}
 use Rattle.std.specs.Cmp.{tied_itself}
-use Rattle.std.specs.Ordering.{is_eq, is_lt, ordering_reverse}
+use Rattle.std.specs.Ordering.{is_eq, ordering_reverse}
 use Rattle.std.specs.declared.cmp.Ordering.{Ordering}
 use Rattle.std.specs.declared.cmp.Ordering.TheVariants.{Less, Equal, Greater}
 use Rattle.std.proofs.lemmas.Bool.{eqb-true, ne_eqb}
@@ -14,11 +14,10 @@ use Rattle.forest_model.specs.Documents.{Map, Entry as Document, is_of, count_of
 use Rattle.forest_model.specs.declared.documents.DocKey.{DocKey}
 use Rattle.forest_model.specs.declared.documents.Doc.{Doc}
 use Rattle.forest_model.specs.declared.stored.Entry.{Entry}
-use Rattle.forest_model.specs.declared.stored.KeyEntry.{KeyEntry}
 use Rattle.file_image.specs.Commits.{live_of, live_bytes}
 use Rattle.wal_index.specs.Index.{Map as Entries, key_entry}
+use Rattle.wal_index.specs.Live.{own_len, own_live}
 use Rattle.file_core.specs.Setting.{live_len}
-use Rattle.file_core.specs.StoreChanges.{own_len, own_live}
 use Rattle.file_core.proofs.Inserted.{exact_keys, keys_total, same_or_other, part, none_below, below_less, both, is_true}
 
 -- ---- two maps whose values add the same at each key

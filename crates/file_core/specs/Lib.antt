@@ -7,3 +7,5 @@ pub mod Setting
 pub mod StoreChanges
 pub mod Writing
 pub mod Deleting
+pub mod Batching
+pub mod BatchPuts

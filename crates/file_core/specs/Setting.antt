@@ -17,6 +17,7 @@ use Rattle.forest_model.specs.declared.refusal.Refusal.{Refusal}
 use Rattle.forest_model.specs.declared.refusal.Refusal.TheVariants.{ReadOnly, KeyLength, BodyLength, NoStore, Worn, FileFull, NoMemory, DiskFault}
 use Rattle.forest_model.specs.declared.stored.Entry.{Entry}
 use Rattle.kvs_names.specs.Table.{row_with_id, counted}
+use Rattle.wal_index.specs.Live.{len_if_live}
 use Rattle.file_core.specs.Held.{Held}
 use Rattle.file_core.specs.Stands.{put_of}
 use Rattle.file_core.specs.Updates.{Moment}
@@ -55,7 +56,7 @@ is_live (Some e) = e.live
 
 abbrev pub live_len : Option Entry → ℕ
 live_len None = 0
-live_len (Some e) = if e.live then e.len else 0
+live_len (Some e) = len_if_live e
 
 -- the count of documents and the bytes of live records, once a key with this older entry is set
 abbrev pub documents_after : Option Entry → ℕ → ℕ

@@ -1,5 +1,5 @@
 -- Why a store isn't opened or removed, and what is left in memory, by what an open file has there.
-use Rattle.std.specs.Prelude.{◌≡◌, ◌⊎◌, ℕ, ◌+◌, ◌<◌, ◌≤◌, ◌^◌, Bool, false, ◌&&◌, not, ◌||◌, ◌==◌, ◌-◌, min, sum_by, codes, nat_eq, IsTrue, List, [], ◌∷◌, ◌++◌, length, Option, Some, None, is_none, nat_le, MatchOption, MatchResult, Result, Ok, Err, if◌then◌else◌}
+use Rattle.std.specs.Prelude.{◌≡◌, ◌⊎◌, ℕ, ◌+◌, ◌<◌, ◌≤◌, ◌^◌, Bool, false, not, ◌||◌, ◌==◌, ◌-◌, min, codes, nat_eq, IsTrue, List, [], ◌∷◌, ◌++◌, length, Option, Some, None, is_none, nat_le, MatchOption, MatchResult, Result, Ok, Err}
 use Rattle.std.specs.Cmp.Lexicographic.{pointwise}
 use Rattle.std.specs.FinMap as finite
 use Rattle.std.specs.Option.{option_map, option_map_or}
@@ -12,13 +12,12 @@ use Rattle.forest_model.specs.Step.{◌where_holds◌, first_cause}
 use Rattle.forest_model.specs.declared.call.StoreRef.{StoreRef}
 use Rattle.forest_model.specs.declared.refusal.Refusal.{Refusal}
 use Rattle.forest_model.specs.declared.refusal.Refusal.TheVariants.{ReadOnly, NameForm, NoStore, Worn, StoreCount, NoMemory, DiskFault}
-use Rattle.forest_model.specs.declared.stored.KeyEntry.{KeyEntry}
 use Rattle.forest_model.specs.declared.stored.Rec.{Rec}
 use Rattle.kvs_names.specs.Answers.{remove_causes as why_not_removed}
 use Rattle.kvs_names.specs.Table.{Table, row_named, with_new, without}
-use Rattle.wal_index.specs.Index.{Map as Entries, in_order}
+use Rattle.wal_index.specs.Live.{own_live}
 use Rattle.file_core.specs.Held.{Held}
-use Rattle.file_core.specs.Setting.{blocks_needed, full_cause, live_len, OnlyMemory}
+use Rattle.file_core.specs.Setting.{blocks_needed, full_cause, OnlyMemory}
 use Rattle.file_core.specs.Updates.{Moment}
 
 -- the record that makes a store
@@ -92,14 +91,6 @@ remove_causes p at name =
     (ReadOnly where_holds at.read_only) ∷ (NameForm where_holds (not (is_name name) || pointwise nat_eq name (codes "default")))
     ∷ (NoStore where_holds is_none (id_named p.names name)) ∷ (Worn where_holds any_worn ((p.place + 1) ∷ []))
     ∷ full_cause p (blocks_needed p [] [] []) ∷ []
-
--- the bytes of an entry's live record, where it is of a store
-abbrev pub own_len : ℕ → KeyEntry → ℕ
-own_len id e = if e.store == id then live_len (Some e.entry) else 0
-
--- the bytes of the live records of a store
-abbrev pub own_live : ℕ → Entries → ℕ
-own_live id entries = sum_by (own_len id) (in_order entries)
 
 -- what the removal of a store leaves
 pub record RemovesStore (told : Bool) (id : ℕ) (old new : Moment) : Type 0 where

@@ -40,7 +40,7 @@ impl<H: Host> FileState<H> {
         ensures halts { result ≡ Err Refusal.DiskFault → self.new.parts.stopped ≡ Some (H.faults self.new.parts.host) }
         ensures clock { (H.disk self.old.parts.host).moment ≤ (H.disk self.new.parts.host).moment }
         ensures counts { H.faults self.old.parts.host ≤ H.faults self.new.parts.host }
-        ensures untroubled { OnOk result (H.faults self.new.parts.host ≡ H.faults self.old.parts.host) }
+        ensures untroubled { result ≢ Err Refusal.DiskFault → H.faults self.new.parts.host ≡ H.faults self.old.parts.host }
         ensures view_count { H.View.faults self.new.parts.view ≡ H.View.faults self.old.parts.view }
         ensures opened { self.new.parts.opened ≡ self.old.parts.opened }
         ensures damaged { self.new.parts.damaged ≡ self.old.parts.damaged }
@@ -70,7 +70,7 @@ fn delete_in<H: Host>(
     ensures halts { result ≡ Err Refusal.DiskFault → parts.new.stopped ≡ Some (H.faults parts.new.host) }
     ensures clock { (H.disk parts.old.host).moment ≤ (H.disk parts.new.host).moment }
     ensures counts { H.faults parts.old.host ≤ H.faults parts.new.host }
-    ensures untroubled { OnOk result (H.faults parts.new.host ≡ H.faults parts.old.host) }
+    ensures untroubled { result ≢ Err Refusal.DiskFault → H.faults parts.new.host ≡ H.faults parts.old.host }
     ensures view_count { H.View.faults parts.new.view ≡ H.View.faults parts.old.view }
     ensures opened { parts.new.opened ≡ parts.old.opened }
     ensures damaged { parts.new.damaged ≡ parts.old.damaged }
@@ -80,7 +80,7 @@ fn delete_in<H: Host>(
 }
 
 // Whether a key with this newest entry has a document.
-fn is_living(newest: Option<Entry>) -> bool
+pub(crate) fn is_living(newest: Option<Entry>) -> bool
     ensures { result ≡ is_live newest }
 {
     match newest {
@@ -141,7 +141,7 @@ fn delete_free<H: Host>(
     ensures halts { result ≡ Err Refusal.DiskFault → parts.new.stopped ≡ Some (H.faults parts.new.host) }
     ensures clock { (H.disk parts.old.host).moment ≤ (H.disk parts.new.host).moment }
     ensures counts { H.faults parts.old.host ≤ H.faults parts.new.host }
-    ensures untroubled { OnOk result (H.faults parts.new.host ≡ H.faults parts.old.host) }
+    ensures untroubled { result ≢ Err Refusal.DiskFault → H.faults parts.new.host ≡ H.faults parts.old.host }
     ensures view_count { H.View.faults parts.new.view ≡ H.View.faults parts.old.view }
     ensures opened { parts.new.opened ≡ parts.old.opened }
     ensures damaged { parts.new.damaged ≡ parts.old.damaged }
@@ -219,7 +219,7 @@ fn enter_deletion<H: Host>(
 }
 
 // The bytes of a key's record, where its newest entry sets it.
-fn len_of_living(newest: Option<Entry>) -> u64
+pub(crate) fn len_of_living(newest: Option<Entry>) -> u64
     ensures { result ≡ live_len newest }
 {
     match newest {

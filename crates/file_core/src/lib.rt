@@ -1,11 +1,14 @@
 //! The open file: named stores with their documents, which are read back from their records in the file.
 //!
 //! It promises that what it has in memory stands for a state of the sequential store, and that each call answers and
-//! changes what one step of that state does. It has the calls that read, those that set and delete a key, and those that
-//! make and remove a store; a batch is to come.
+//! changes what one step of that state does. It has the calls that read, those that set and delete a key, a batch of both,
+//! and those that make and remove a store.
 #![tactic(auto)]
 
+mod batch_puts;
+mod batching;
 mod deleting;
+mod items;
 mod parts;
 mod reads;
 mod setting;

@@ -1,4 +1,4 @@
-ghost use Rattle.std.specs.Prelude.{◌≡◌, ◌≤◌, IsTrue, OnOk};
+ghost use Rattle.std.specs.Prelude.{◌≡◌, ◌≤◌, IsTrue, OnOk, ◌≢◌, Err};
 ghost use Rattle.forest_model.specs.Limits as limits;
 ghost use Rattle.file_core.specs.Held.{held};
 ghost use Rattle.file_core.specs.Lookup.{stop_of, living, entry_of_key, LooksUpNumber, info_in, FindsRecord};
@@ -96,7 +96,7 @@ pub(crate) fn find_record<V: View>(
         result }
     ensures content { IsTrue V.tells → V.content view.new ≡ V.content view.old }
     ensures counts { V.faults view.old ≤ V.faults view.new }
-    ensures untroubled { OnOk result (V.faults view.new ≡ V.faults view.old) }
+    ensures untroubled { result ≢ Err Refusal.DiskFault → V.faults view.new ≡ V.faults view.old }
 {
     let Rec {
         key,

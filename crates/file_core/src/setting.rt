@@ -45,7 +45,7 @@ impl<H: Host> FileState<H> {
         ensures halts { result ≡ Err Refusal.DiskFault → self.new.parts.stopped ≡ Some (H.faults self.new.parts.host) }
         ensures clock { (H.disk self.old.parts.host).moment ≤ (H.disk self.new.parts.host).moment }
         ensures counts { H.faults self.old.parts.host ≤ H.faults self.new.parts.host }
-        ensures untroubled { OnOk result (H.faults self.new.parts.host ≡ H.faults self.old.parts.host) }
+        ensures untroubled { result ≢ Err Refusal.DiskFault → H.faults self.new.parts.host ≡ H.faults self.old.parts.host }
         ensures view_count { H.View.faults self.new.parts.view ≡ H.View.faults self.old.parts.view }
         ensures opened { self.new.parts.opened ≡ self.old.parts.opened }
         ensures damaged { self.new.parts.damaged ≡ self.old.parts.damaged }
@@ -78,7 +78,7 @@ fn set_in<H: Host>(
     ensures halts { result ≡ Err Refusal.DiskFault → parts.new.stopped ≡ Some (H.faults parts.new.host) }
     ensures clock { (H.disk parts.old.host).moment ≤ (H.disk parts.new.host).moment }
     ensures counts { H.faults parts.old.host ≤ H.faults parts.new.host }
-    ensures untroubled { OnOk result (H.faults parts.new.host ≡ H.faults parts.old.host) }
+    ensures untroubled { result ≢ Err Refusal.DiskFault → H.faults parts.new.host ≡ H.faults parts.old.host }
     ensures view_count { H.View.faults parts.new.view ≡ H.View.faults parts.old.view }
     ensures opened { parts.new.opened ≡ parts.old.opened }
     ensures damaged { parts.new.damaged ≡ parts.old.damaged }
@@ -132,7 +132,7 @@ pub(crate) fn is_wrong_key(key: &[u8]) -> bool
     key.is_empty() || key.len() > 3500
 }
 
-fn is_wrong_body(meta: &[u8], body: &[u8]) -> bool
+pub(crate) fn is_wrong_body(meta: &[u8], body: &[u8]) -> bool
     ensures { result ≡ limits.is_wrong_body meta.now body.now }
 {
     meta.len() > 255 || body.len() > 1_048_576
@@ -169,7 +169,7 @@ fn set_free<H: Host>(
     ensures halts { result ≡ Err Refusal.DiskFault → parts.new.stopped ≡ Some (H.faults parts.new.host) }
     ensures clock { (H.disk parts.old.host).moment ≤ (H.disk parts.new.host).moment }
     ensures counts { H.faults parts.old.host ≤ H.faults parts.new.host }
-    ensures untroubled { OnOk result (H.faults parts.new.host ≡ H.faults parts.old.host) }
+    ensures untroubled { result ≢ Err Refusal.DiskFault → H.faults parts.new.host ≡ H.faults parts.old.host }
     ensures view_count { H.View.faults parts.new.view ≡ H.View.faults parts.old.view }
     ensures opened { parts.new.opened ≡ parts.old.opened }
     ensures damaged { parts.new.damaged ≡ parts.old.damaged }
@@ -313,7 +313,7 @@ fn enter<H: Host>(
 }
 
 // The bytes of live records, once a key with this older entry has a record of so many bytes.
-fn live_with(older: Option<Entry>, live: u64, len: u64) -> u64
+pub(crate) fn live_with(older: Option<Entry>, live: u64, len: u64) -> u64
     ensures { result ≡ live_after older live len }
 {
     let gone = match older {
@@ -324,7 +324,7 @@ fn live_with(older: Option<Entry>, live: u64, len: u64) -> u64
 }
 
 // The count of documents of a store, once a key with this older entry has a document.
-fn documents_with(older: Option<Entry>, documents: u64) -> u64
+pub(crate) fn documents_with(older: Option<Entry>, documents: u64) -> u64
     ensures { result ≡ documents_after older documents }
 {
     match older {

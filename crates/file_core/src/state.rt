@@ -1,4 +1,4 @@
-ghost use Rattle.std.specs.Prelude.{◌≡◌, ◌≤◌, ℕ, List, IsTrue, IfOk, IfErr, OnOk, Some, Err};
+ghost use Rattle.std.specs.Prelude.{◌≡◌, ◌≤◌, ℕ, List, IsTrue, IfOk, IfErr, OnOk, Some, Err, ◌≢◌};
 ghost use Rattle.block_host.specs.Calls.{Reads};
 ghost use Rattle.block_host.specs.Disk.{risen};
 ghost use Rattle.doc_stream.specs.Causes.{BreaksRecord};
@@ -81,7 +81,7 @@ impl<H: Host> FileState<H> {
         ensures host { self.new.parts.host ≡ self.old.parts.host }
         ensures content { IsTrue H.tells → H.View.content self.new.parts.view ≡ H.View.content self.old.parts.view }
         ensures counts { H.View.faults self.old.parts.view ≤ H.View.faults self.new.parts.view }
-        ensures untroubled { OnOk result (H.View.faults self.new.parts.view ≡ H.View.faults self.old.parts.view) }
+        ensures untroubled { result ≢ Err Refusal.DiskFault → H.View.faults self.new.parts.view ≡ H.View.faults self.old.parts.view }
     {
         let entry = entry_of_key(&self.parts, at, key)?;
         self.document(entry)
@@ -100,7 +100,7 @@ impl<H: Host> FileState<H> {
         ensures host { self.new.parts.host ≡ self.old.parts.host }
         ensures content { IsTrue H.tells → H.View.content self.new.parts.view ≡ H.View.content self.old.parts.view }
         ensures counts { H.View.faults self.old.parts.view ≤ H.View.faults self.new.parts.view }
-        ensures untroubled { OnOk result (H.View.faults self.new.parts.view ≡ H.View.faults self.old.parts.view) }
+        ensures untroubled { result ≢ Err Refusal.DiskFault → H.View.faults self.new.parts.view ≡ H.View.faults self.old.parts.view }
     {
         let entry = entry_of_number(&self.parts, at, seq)?;
         self.document(entry)
@@ -114,7 +114,7 @@ impl<H: Host> FileState<H> {
         ensures host { self.new.parts.host ≡ self.old.parts.host }
         ensures content { IsTrue H.View.tells → H.View.content self.new.parts.view ≡ H.View.content self.old.parts.view }
         ensures counts { H.View.faults self.old.parts.view ≤ H.View.faults self.new.parts.view }
-        ensures untroubled { OnOk result (H.View.faults self.new.parts.view ≡ H.View.faults self.old.parts.view) }
+        ensures untroubled { result ≢ Err Refusal.DiskFault → H.View.faults self.new.parts.view ≡ H.View.faults self.old.parts.view }
     {
         let parts = &mut self.parts;
         find_record(

@@ -1,4 +1,4 @@
-ghost use Rattle.std.specs.Prelude.{◌≡◌, ◌≢◌, ◌⊎◌, ◌≤◌, ◌<◌, ◌+◌, ◌^◌, ℕ, [], not, ◌==◌, ◌-◌, min, sum_by, length, IsTrue, true, false, is_none, Some, None, Ok, Err, IfNone, IfOk, IfErr, OnOk, OnErr};
+ghost use Rattle.std.specs.Prelude.{◌≡◌, ◌≢◌, ◌⊎◌, ◌≤◌, ◌<◌, ◌+◌, ◌^◌, ℕ, [], not, ◌==◌, ◌-◌, length, IsTrue, true, false, is_none, Some, None, Ok, Err, IfNone, IfOk, IfErr, OnOk, OnErr};
 ghost use Rattle.std.specs.FinMap as finite;
 ghost use Rattle.std.specs.Result.{result_err};
 ghost use Rattle.doc_stream.specs.OpenBlock.{PutsBytes};
@@ -13,18 +13,17 @@ ghost use Rattle.forest_model.specs.declared.state.State.{State};
 ghost use Rattle.kvs_names.specs.Answers.{create_causes, remove_causes as why_not_removed};
 ghost use Rattle.kvs_names.specs.Table.{with_new, without};
 ghost use Rattle.file_core.specs.Held.{held};
-ghost use Rattle.file_core.specs.StoreChanges.{new_of, id_named, make_causes, open_causes, PutsRecord, NotPut, MakeGives, OpenAnswers, remove_causes, own_len, own_live, UnmakeGives, RemoveAnswers};
+ghost use Rattle.file_core.specs.StoreChanges.{new_of, id_named, make_causes, open_causes, PutsRecord, NotPut, MakeGives, OpenAnswers, remove_causes, UnmakeGives, RemoveAnswers};
 ghost use Rattle.file_core.specs.Updates.{StandsAt, IsFile, UpdatesAs, Aside, moment_of};
 
 use crate::writes::{MOST_BLOCKS, grow, is_full, is_next_worn};
 use crate::{FileState, Parts};
 use block_host::{Block, Failed, Host};
 use doc_stream::{Tail, puts_keep_records};
-use forest_model::{Bytes, KeyEntry, Rec, Refusal, StoreRef};
+use forest_model::{Bytes, Rec, Refusal, StoreRef};
 use kvs_names::Names;
 use model_laws::{record_blocks, rules};
 use std::alloc::Global;
-use wal_index::WalIndex;
 
 const MOST_STORES: u64 = 64;
 
@@ -42,7 +41,7 @@ impl<H: Host> FileState<H> {
         ensures halts { result ≡ Err Refusal.DiskFault → self.new.parts.stopped ≡ Some (H.faults self.new.parts.host) }
         ensures clock { (H.disk self.old.parts.host).moment ≤ (H.disk self.new.parts.host).moment }
         ensures counts { H.faults self.old.parts.host ≤ H.faults self.new.parts.host }
-        ensures untroubled { OnOk result (H.faults self.new.parts.host ≡ H.faults self.old.parts.host) }
+        ensures untroubled { result ≢ Err Refusal.DiskFault → H.faults self.new.parts.host ≡ H.faults self.old.parts.host }
         ensures view_count { H.View.faults self.new.parts.view ≡ H.View.faults self.old.parts.view }
         ensures opened { self.new.parts.opened ≡ self.old.parts.opened }
         ensures damaged { self.new.parts.damaged ≡ self.old.parts.damaged }
@@ -69,7 +68,7 @@ impl<H: Host> FileState<H> {
         ensures halts { result ≡ Err Refusal.DiskFault → self.new.parts.stopped ≡ Some (H.faults self.new.parts.host) }
         ensures clock { (H.disk self.old.parts.host).moment ≤ (H.disk self.new.parts.host).moment }
         ensures counts { H.faults self.old.parts.host ≤ H.faults self.new.parts.host }
-        ensures untroubled { OnOk result (H.faults self.new.parts.host ≡ H.faults self.old.parts.host) }
+        ensures untroubled { result ≢ Err Refusal.DiskFault → H.faults self.new.parts.host ≡ H.faults self.old.parts.host }
         ensures view_count { H.View.faults self.new.parts.view ≡ H.View.faults self.old.parts.view }
         ensures opened { self.new.parts.opened ≡ self.old.parts.opened }
         ensures damaged { self.new.parts.damaged ≡ self.old.parts.damaged }
@@ -99,7 +98,7 @@ fn open_in<H: Host>(
     ensures halts { result ≡ Err Refusal.DiskFault → parts.new.stopped ≡ Some (H.faults parts.new.host) }
     ensures clock { (H.disk parts.old.host).moment ≤ (H.disk parts.new.host).moment }
     ensures counts { H.faults parts.old.host ≤ H.faults parts.new.host }
-    ensures untroubled { OnOk result (H.faults parts.new.host ≡ H.faults parts.old.host) }
+    ensures untroubled { result ≢ Err Refusal.DiskFault → H.faults parts.new.host ≡ H.faults parts.old.host }
     ensures view_count { H.View.faults parts.new.view ≡ H.View.faults parts.old.view }
     ensures opened { parts.new.opened ≡ parts.old.opened }
     ensures damaged { parts.new.damaged ≡ parts.old.damaged }
@@ -155,7 +154,7 @@ fn may_make<H: Host>(parts: &Parts<H>, name: &[u8], read_only: bool) -> Result<(
     if is_worn(parts.names.next()) || is_next_worn(parts.place) {
         return Err(Refusal::Worn);
     }
-    if parts.names.stores().len() >= MOST_STORES {
+    if parts.names.len() >= MOST_STORES {
         return Err(Refusal::StoreCount);
     }
     let needed = parts.tail.needed(24 + name.len() as u64);
@@ -189,7 +188,7 @@ fn make<H: Host>(alloc: Global, parts: &mut Parts<H>, name: &[u8]) -> Result<u64
     ensures halts { result ≡ Err Refusal.DiskFault → parts.new.stopped ≡ Some (H.faults parts.new.host) }
     ensures clock { (H.disk parts.old.host).moment ≤ (H.disk parts.new.host).moment }
     ensures counts { H.faults parts.old.host ≤ H.faults parts.new.host }
-    ensures untroubled { OnOk result (H.faults parts.new.host ≡ H.faults parts.old.host) }
+    ensures untroubled { result ≢ Err Refusal.DiskFault → H.faults parts.new.host ≡ H.faults parts.old.host }
     ensures view_count { H.View.faults parts.new.view ≡ H.View.faults parts.old.view }
     ensures opened { parts.new.opened ≡ parts.old.opened }
     ensures damaged { parts.new.damaged ≡ parts.old.damaged }
@@ -232,7 +231,7 @@ fn append<H: Host>(alloc: Global, parts: &mut Parts<H>, rec: &Rec, len: u64) -> 
     ensures halts { result ≡ Err Refusal.DiskFault → parts.new.stopped ≡ Some (H.faults parts.new.host) }
     ensures clock { (H.disk parts.old.host).moment ≤ (H.disk parts.new.host).moment }
     ensures counts { H.faults parts.old.host ≤ H.faults parts.new.host }
-    ensures untroubled { OnOk result (H.faults parts.new.host ≡ H.faults parts.old.host) }
+    ensures untroubled { result ≢ Err Refusal.DiskFault → H.faults parts.new.host ≡ H.faults parts.old.host }
     ensures view_count { H.View.faults parts.new.view ≡ H.View.faults parts.old.view }
     ensures opened { parts.new.opened ≡ parts.old.opened }
     ensures damaged { parts.new.damaged ≡ parts.old.damaged }
@@ -342,7 +341,7 @@ fn remove_in<H: Host>(
     ensures halts { result ≡ Err Refusal.DiskFault → parts.new.stopped ≡ Some (H.faults parts.new.host) }
     ensures clock { (H.disk parts.old.host).moment ≤ (H.disk parts.new.host).moment }
     ensures counts { H.faults parts.old.host ≤ H.faults parts.new.host }
-    ensures untroubled { OnOk result (H.faults parts.new.host ≡ H.faults parts.old.host) }
+    ensures untroubled { result ≢ Err Refusal.DiskFault → H.faults parts.new.host ≡ H.faults parts.old.host }
     ensures view_count { H.View.faults parts.new.view ≡ H.View.faults parts.old.view }
     ensures opened { parts.new.opened ≡ parts.old.opened }
     ensures damaged { parts.new.damaged ≡ parts.old.damaged }
@@ -393,47 +392,17 @@ fn unmake<H: Host>(alloc: Global, parts: &mut Parts<H>, id: u64) -> Result<u64, 
     ensures halts { result ≡ Err Refusal.DiskFault → parts.new.stopped ≡ Some (H.faults parts.new.host) }
     ensures clock { (H.disk parts.old.host).moment ≤ (H.disk parts.new.host).moment }
     ensures counts { H.faults parts.old.host ≤ H.faults parts.new.host }
-    ensures untroubled { OnOk result (H.faults parts.new.host ≡ H.faults parts.old.host) }
+    ensures untroubled { result ≢ Err Refusal.DiskFault → H.faults parts.new.host ≡ H.faults parts.old.host }
     ensures view_count { H.View.faults parts.new.view ≡ H.View.faults parts.old.view }
     ensures opened { parts.new.opened ≡ parts.old.opened }
     ensures damaged { parts.new.damaged ≡ parts.old.damaged }
 {
-    let live = live_in(&parts.wal, id)?;
+    let live = parts.wal.live_of(id);
     let rec = record_of(alloc, 4, id, b"")?;
     parts.wal.reserve_gone()?;
     append(alloc, parts, &rec, 24)?;
     forget(parts, id, live);
     Ok(id)
-}
-
-// The bytes of the live records of a store.
-fn live_in(wal: &WalIndex, store: u64) -> Result<u64, Refusal>
-    ensures live { IfOk result (λ live. live ≡ min (own_live store wal.now.entries) (2 ^ 64 - 1)) }
-    ensures memory { OnErr result (result ≡ Err Refusal.NoMemory) }
-{
-    let all = wal.sorted()?;
-    Ok(sum_of(all.keys.as_slice(), store))
-}
-
-fn sum_of(rows: &[KeyEntry], store: u64) -> u64
-    ensures { result ≡ min (sum_by (own_len store) rows.now) (2 ^ 64 - 1) }
-{
-    let mut sum: u64 = 0;
-    for row in rows {
-        sum = sum.saturating_add(len_in(row, store));
-    }
-    sum
-}
-
-// The bytes of an entry's live record, where it is of a store.
-fn len_in(row: &KeyEntry, store: u64) -> u64
-    ensures { result ≡ own_len store row.now }
-{
-    if row.store == store && row.entry.live {
-        row.entry.len
-    } else {
-        0
-    }
 }
 
 // Lets go of a store whose record was put.

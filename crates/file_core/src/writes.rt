@@ -17,6 +17,13 @@ pub(crate) fn is_next_worn(number: u64) -> bool
     number >= FIRST_WORN - 1
 }
 
+// Whether a number so many above this one may not be drawn any more.
+pub(crate) fn is_later_worn(number: u64, more: u64) -> bool
+    ensures { result ≡ is_worn (number + more) }
+{
+    number >= FIRST_WORN || more >= FIRST_WORN - number
+}
+
 // Whether so many blocks and so many more are above a greatest number.
 fn is_over(blocks: u64, more: u64, max: u64) -> bool
     ensures { result ≡ nat_lt max (blocks + more) }

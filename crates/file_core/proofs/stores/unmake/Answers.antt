@@ -1,4 +1,4 @@
-use Rattle.std.proofs.Common.{◌≡◌, refl, ap}
+use Rattle.std.proofs.Common.{refl, ap}
 use Rattle.file_core.specs.Updates.{moment_of}
 use Rattle.file_core.proofs.StoreLeft.{unmade}
 use Rattle.file_core.proofs.stores.unmake.Goals as goal
@@ -10,7 +10,7 @@ returns-clause-gives g c = (
       (moment_of (g.H.Host.disk c.args.parts.now.host) (g.H.View.View.content c.args.parts.now.view) (g.H.Host.faults c.args.parts.now.host) (g.H.View.View.faults c.args.parts.now.view) c.args.parts.now)
       (moment_of (g.H.Host.disk c.append.new.parts.host) (g.H.View.View.content c.append.new.parts.view) (g.H.Host.faults c.append.new.parts.host) (g.H.View.View.faults c.append.new.parts.view) c.append.new.parts)
       (moment_of (g.H.Host.disk c.forget.new.parts.host) (g.H.View.View.content c.forget.new.parts.view) (g.H.Host.faults c.forget.new.parts.host) (g.H.View.View.faults c.forget.new.parts.view) c.forget.new.parts)
-      c.reserve_gone.new.self c.in_ok-live.live c.in_ok-rec.rec c.in_ok-reserve_gone.ensures.may_go c.in_ok-rec.ensures.record
+      c.reserve_gone.new.self c.live_of-live.result c.in_ok-rec.rec c.in_ok-reserve_gone.ensures.may_go c.in_ok-rec.ensures.record
       c.in_ok-append.ensures.puts c.in_ok-append.ensures.rest (ap g.H.Host.disk c.forget.ensures.host) (ap g.H.View.View.content c.forget.ensures.view)
-      c.forget.ensures.entries c.forget.ensures.names c.forget.ensures.rest c.in_ok-live.ensures.live,
+      c.forget.ensures.entries c.forget.ensures.names c.forget.ensures.rest c.live_of-live.ensures,
 )
