@@ -1,4 +1,5 @@
 mod calls;
+mod changes;
 mod failing;
 mod full;
 mod rows;

@@ -1,6 +1,7 @@
 -- A run over the host in memory, whose store is new and which has said nothing before.
-use Rattle.std.proofs.Common.{◌≡◌, ℕ, List, [], ◌∷◌, ◌++◌, take, true, refl, sym, ap, subst, ◌∙◌}
-use Rattle.std.specs.Prelude.{IsTrue}
+use Rattle.std.proofs.Common.{◌≡◌, ◌≤◌, ℕ, Bool, List, [], ◌∷◌, ◌++◌, take, true, false, ltb, refl, sym, ap, subst, ◌∙◌, arith, inl, inr}
+use Rattle.std.specs.Prelude.{IsTrue, ◌⊎◌}
+use Rattle.std.proofs.lemmas.Bool.{ltb-true, ltb-false}
 use Rattle.block_host.specs.Disk.{Image}
 use Rattle.block_host.specs.Sealed.{IsSealed, zero_block}
 use Rattle.block_host.specs.declared.block.Block.{Block}
@@ -9,9 +10,28 @@ use Rattle.file_image.specs.NewStore.{IsNewStore, new_header}
 use Rattle.forest_model.specs.Blocks.{File}
 use Rattle.header_block.specs.Layout.{header_bytes, long}
 use Rattle.meta_slots.specs.Slots.{slot_bytes}
-use Rattle.play_run.specs.Ledger.{Seen, bytes_of}
+use Rattle.file_core.specs.Updates.{bytes_of}
+use Rattle.play_run.specs.Seen.{Seen}
 use Rattle.play_run.specs.Play.{Leaves, Says, SaysPart, Takes}
 use Rattle.forest.specs.NewRun.{Left, Said, SaidPart}
+
+-- a host that tells its content meets no damaged block
+pub none_damaged : (s : ℕ) → (s ≡ 6 → IsTrue true → ⊥) → (s ≡ 3) ⊎ ((s ≡ 4) ⊎ ((s ≡ 5) ⊎ (s ≡ 6))) → (s ≡ 3) ⊎ ((s ≡ 4) ⊎ (s ≡ 5))
+none_damaged s sound (inl three) = inl three
+none_damaged s sound (inr (inl four)) = inr (inl four)
+none_damaged s sound (inr (inr (inl five))) = inr (inr five)
+none_damaged s sound (inr (inr (inr six))) = absurd (sound six refl)
+
+pub none_damaged_or : (s : ℕ) → (s ≡ 6 → IsTrue true → ⊥) → (s ≡ 2) ⊎ ((s ≡ 3) ⊎ ((s ≡ 4) ⊎ ((s ≡ 5) ⊎ (s ≡ 6)))) → (s ≡ 2) ⊎ ((s ≡ 3) ⊎ ((s ≡ 4) ⊎ (s ≡ 5)))
+none_damaged_or s sound (inl two) = inl two
+none_damaged_or s sound (inr more) = inr (none_damaged s sound more)
+
+pub at_most_five : (s : ℕ) → s ≤ 7 → (s ≡ 7 → ⊥) → (s ≡ 6 → IsTrue true → ⊥) → s ≤ 5
+at_most_five s most seven six = by (ltb s 6) refl (ltb s 7) refl where
+  by : (a : Bool) → ltb s 6 ≡ a → (b : Bool) → ltb s 7 ≡ b → s ≤ 5
+  by true e b f = omega (arith, ltb-true s 6 e)
+  by false e true f = absurd (six (omega (arith, ltb-false s 6 e, ltb-true s 7 f)) refl)
+  by false e false f = absurd (seven (omega (arith, most, ltb-false s 7 f)))
 
 -- the bytes of a new store that the host spells out are those of the format
 same_header : first_header ≡ header_bytes new_header

@@ -5,7 +5,8 @@ use Rattle.block_host.specs.declared.block.Block.{Block}
 use Rattle.file_image.specs.NewStore.{new_header}
 use Rattle.forest_model.specs.Blocks.{File}
 use Rattle.header_block.specs.Layout.{header_bytes}
-use Rattle.play_run.specs.Ledger.{Seen, bytes_of}
+use Rattle.file_core.specs.Updates.{bytes_of}
+use Rattle.play_run.specs.Seen.{Seen}
 
 -- the file has gone from the header of commit 0 to what it is now, and these bytes were said
 pub record Left (now : Seen) (P : File → File → List ℕ → Type 0) : Type 0 where

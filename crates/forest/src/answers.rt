@@ -5,7 +5,7 @@ ghost use Rattle.file_image.specs.NewStore.{IsNewStore};
 ghost use Rattle.file_image.specs.Stands.{Stands};
 ghost use Rattle.forest_model.specs.State.{new_durable};
 ghost use Rattle.host_memory.specs.Memory.{memory_disk, memory_faults};
-ghost use Rattle.play_run.specs.Ledger.{seen};
+ghost use Rattle.play_run.specs.Seen.{seen};
 ghost use Rattle.play_run.specs.Script.{AreWords, HoldsBad, EndsBad, IsGood, MeetsBad, RunsAll, RunsPrefix};
 ghost use Rattle.play_run.specs.Play.{MaySay, Rests, RunsAndSays, Takes, source_fault, words_refused};
 ghost use Rattle.forest.specs.NewRun.{Left, Said, SaidPart};

@@ -101,60 +101,68 @@ const FILE: [(&[u8], &[u8]); 7] = [
     ),
 ];
 
-// In each row the host's call of the first number fails, or the source's read of the second, each counted from 1; 0 is
-// none. Wanted are the status, how many replies are said, and how many blocks of `FILE` are left.
+// In each row the host's call of the first number fails, or the view's read of the second, or the source's read of the
+// third, each counted from 1; 0 is none. Wanted are the status, how many replies are said, and how many blocks of `FILE`
+// are left.
 //
-// The host is asked five times for the files of a new store. Then each line says its reply, and a commit with something
-// new first appends its records, syncs, appends its header and syncs. The source gives the script's 144 bytes in 15 reads
-// of ten bytes at most, and one more finds its end; all lines that are whole by then were run. In the last row neither
-// number is reached.
-const FAULTS: [(u64, u64, u8, usize, usize); 46] = [
-    (1, 0, 4, 0, 1),
-    (2, 0, 4, 0, 1),
-    (3, 0, 4, 0, 1),
-    (4, 0, 4, 0, 1),
-    (5, 0, 4, 0, 1),
-    (6, 0, 4, 0, 1),
-    (7, 0, 4, 1, 1),
-    (8, 0, 4, 2, 1),
-    (9, 0, 4, 2, 2),
-    (10, 0, 4, 2, 2),
-    (11, 0, 4, 2, 3),
-    (12, 0, 4, 2, 3),
-    (13, 0, 4, 3, 3),
-    (14, 0, 4, 4, 3),
-    (15, 0, 4, 5, 3),
-    (16, 0, 4, 5, 4),
-    (17, 0, 4, 5, 4),
-    (18, 0, 4, 5, 5),
-    (19, 0, 4, 5, 5),
-    (20, 0, 4, 6, 5),
-    (21, 0, 4, 7, 5),
-    (22, 0, 4, 8, 5),
-    (23, 0, 4, 9, 5),
-    (24, 0, 4, 10, 5),
-    (25, 0, 4, 10, 6),
-    (26, 0, 4, 10, 6),
-    (27, 0, 4, 10, 7),
-    (28, 0, 4, 10, 7),
-    (29, 0, 4, 11, 7),
-    (0, 1, 2, 0, 1),
-    (0, 2, 2, 0, 1),
-    (0, 3, 2, 1, 1),
-    (0, 4, 2, 2, 1),
-    (0, 5, 2, 3, 3),
-    (0, 6, 2, 4, 3),
-    (0, 7, 2, 4, 3),
-    (0, 8, 2, 5, 3),
-    (0, 9, 2, 6, 5),
-    (0, 10, 2, 7, 5),
-    (0, 11, 2, 8, 5),
-    (0, 12, 2, 8, 5),
-    (0, 13, 2, 9, 5),
-    (0, 14, 2, 10, 5),
-    (0, 15, 2, 11, 7),
-    (0, 16, 2, 12, 7),
-    (30, 17, 0, 12, 7),
+// The host is asked five times for the files of a new store, and then for a view. Each line says its reply. A commit with
+// something new first appends its records, syncs, appends its header, syncs and renews the view. The view is read where
+// a key is got whose record isn't in the open block: in the seventh and in the last line. The source gives the script's 144
+// bytes in 15 reads of ten bytes at most, and one more finds its end; all lines that are whole by then were run. In the
+// last row no number is reached.
+const FAULTS: [(u64, u64, u64, u8, usize, usize); 52] = [
+    (1, 0, 0, 4, 0, 1),
+    (2, 0, 0, 4, 0, 1),
+    (3, 0, 0, 4, 0, 1),
+    (4, 0, 0, 4, 0, 1),
+    (5, 0, 0, 4, 0, 1),
+    (6, 0, 0, 4, 0, 1),
+    (7, 0, 0, 4, 0, 1),
+    (8, 0, 0, 4, 1, 1),
+    (9, 0, 0, 4, 2, 1),
+    (10, 0, 0, 4, 2, 2),
+    (11, 0, 0, 4, 2, 2),
+    (12, 0, 0, 4, 2, 3),
+    (13, 0, 0, 4, 2, 3),
+    (14, 0, 0, 4, 2, 3),
+    (15, 0, 0, 4, 3, 3),
+    (16, 0, 0, 4, 4, 3),
+    (17, 0, 0, 4, 5, 3),
+    (18, 0, 0, 4, 5, 4),
+    (19, 0, 0, 4, 5, 4),
+    (20, 0, 0, 4, 5, 5),
+    (21, 0, 0, 4, 5, 5),
+    (22, 0, 0, 4, 5, 5),
+    (23, 0, 0, 4, 6, 5),
+    (24, 0, 0, 4, 7, 5),
+    (25, 0, 0, 4, 8, 5),
+    (26, 0, 0, 4, 9, 5),
+    (27, 0, 0, 4, 10, 5),
+    (28, 0, 0, 4, 10, 6),
+    (29, 0, 0, 4, 10, 6),
+    (30, 0, 0, 4, 10, 7),
+    (31, 0, 0, 4, 10, 7),
+    (32, 0, 0, 4, 10, 7),
+    (33, 0, 0, 4, 11, 7),
+    (0, 1, 0, 4, 6, 5),
+    (0, 2, 0, 4, 11, 7),
+    (0, 0, 1, 2, 0, 1),
+    (0, 0, 2, 2, 0, 1),
+    (0, 0, 3, 2, 1, 1),
+    (0, 0, 4, 2, 2, 1),
+    (0, 0, 5, 2, 3, 3),
+    (0, 0, 6, 2, 4, 3),
+    (0, 0, 7, 2, 4, 3),
+    (0, 0, 8, 2, 5, 3),
+    (0, 0, 9, 2, 6, 5),
+    (0, 0, 10, 2, 7, 5),
+    (0, 0, 11, 2, 8, 5),
+    (0, 0, 12, 2, 8, 5),
+    (0, 0, 13, 2, 9, 5),
+    (0, 0, 14, 2, 10, 5),
+    (0, 0, 15, 2, 11, 7),
+    (0, 0, 16, 2, 12, 7),
+    (34, 3, 17, 0, 12, 7),
 ];
 
 fn run(
@@ -169,9 +177,14 @@ fn run(
     Ok(play(alloc, words.as_slice(), source, host))
 }
 
-fn run_with_faults(alloc: Global, call: u64, read: u64) -> Result<Played<MemoryHost>, AllocError> {
+fn run_with_faults(
+    alloc: Global,
+    call: u64,
+    view: u64,
+    read: u64,
+) -> Result<Played<MemoryHost>, AllocError> {
     let mut host = MemoryHost::formatted(alloc)?;
-    host.fail_calls(&[call], &[], &[])?;
+    host.fail_calls(&[call], &[view], &[])?;
     let mut source = MemorySource::new(SCRIPT.to_vec(alloc)?).with_step(10);
     source.fail_read(read);
     run(alloc, &mut source, host)
@@ -234,18 +247,22 @@ fn has_files(host: &MemoryHost, count: usize) -> bool {
 
 #[test]
 fn each_call_of_the_host_and_each_read_of_the_source_fails(rt: HostRuntime) -> Result<(), Fail> {
-    for (call, read, status, replies, blocks) in FAULTS {
-        let played = run_with_faults(rt.alloc(), call, read)?;
+    for (call, view, read, status, replies, blocks) in FAULTS {
+        let played = run_with_faults(rt.alloc(), call, view, read)?;
         let said = wanted_said(rt.alloc(), replies, status)?;
-        assert_eq!(rt; played.status, status, "at call {call}, read {read}");
+        assert_eq!(rt;
+            played.status,
+            status,
+            "at call {call}, view {view}, read {read}"
+        );
         assert_eq!(rt;
             played.host.said(),
             said.as_slice(),
-            "at call {call}, read {read}"
+            "at call {call}, view {view}, read {read}"
         );
         assert!(rt;
             has_files(&played.host, blocks),
-            "at call {call}, read {read}"
+            "at call {call}, view {view}, read {read}"
         );
     }
     Ok(())
@@ -255,7 +272,7 @@ fn each_call_of_the_host_and_each_read_of_the_source_fails(rt: HostRuntime) -> R
 fn the_first_sync_of_a_commit_fails(rt: HostRuntime) -> Result<(), Fail> {
     let alloc = rt.alloc();
     let mut host = MemoryHost::formatted(alloc)?;
-    host.fail_calls(&[8], &[], &[])?;
+    host.fail_calls(&[9], &[], &[])?;
     let mut source = MemorySource::new(b"0 set a 1\n0 commit\n".to_vec(alloc)?);
     let played = run(alloc, &mut source, host)?;
     assert_eq!(rt; played.status, 4);

@@ -1,9 +1,9 @@
 -- A script is cut into its lines in one way.
-use Rattle.std.proofs.Common.{◌≡◌, ◌≢◌, ℕ, ◌+◌, ◌<◌, ◌≤◌, List, [], ◌∷◌, ◌++◌, length, refl, sym, ap, subst, ◌∙◌, arith, append_assoc, append-nil, length-append, inl, inr}
+use Rattle.std.proofs.Common.{◌≡◌, ◌≢◌, ℕ, List, [], ◌∷◌, ◌++◌, length, refl, sym, ap, subst, ◌∙◌, arith, append_assoc, append-nil}
 use Rattle.std.specs.List.{AllByRecursion}
 use Rattle.std.proofs.lemmas.List.{append_cancel_right}
 use Rattle.forest_model.specs.declared.line.Line.{Line}
-use Rattle.play_run.specs.Script.{IsText, IsTaken, AreTaken, IsBad, ended, last_line, HasBadLine, EndsBad, IsBadLine, IsBadEnd}
+use Rattle.play_run.specs.Script.{IsText, IsTaken, AreTaken, IsBad, ended, last_line}
 
 head : ℕ → List ℕ → ℕ
 head d [] = d

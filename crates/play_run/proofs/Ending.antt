@@ -1,24 +1,24 @@
 -- How the run of a source's bytes ends.
 use Rattle.std.proofs.Common.{◌≡◌, ◌≢◌, ℕ, ◌+◌, ◌≤◌, Bool, true, false, eqb, List, [], ◌∷◌, ◌++◌, length, take, drop, get_or, refl, sym, ap, subst, ◌∙◌, arith, append_assoc, append-nil, length-append, length-take, length-drop, ◌-◌, inl, inr}
-use Rattle.std.specs.Prelude.{IsTrue, ◌⊎◌}
+use Rattle.std.specs.Prelude.{◌⊎◌}
 use Rattle.std.proofs.Math.Seq.{take-add}
 use Rattle.std.proofs.lemmas.Bool.{eqb-true, false≢true}
-use Rattle.play_run.specs.Script.{IsText, ended, HasSaid, RunsAll, RunsPrefix, last_line}
-use Rattle.play_run.specs.Ledger.{Place, Seen}
+use Rattle.play_run.specs.Script.{IsText, ended, HasSaid, last_line}
+use Rattle.play_run.specs.Seen.{Seen}
+use Rattle.play_run.specs.Playing.{Position}
 use Rattle.play_run.specs.Progress.{HasRun, HasTaken, HasHeard, HasHeardOf, HasHeardPart, Stops, StopsText, StopsAtBad, StopsAmong, StopsInPart, Feeds, EndsBy, EndsAmong, EndsInPart}
-use Rattle.play_run.specs.declared.plain.PlainStore.{PlainStore}
 use Rattle.play_run.specs.declared.player.Ended.{Ended}
-use Rattle.play_run.specs.declared.player.Ended.TheVariants.{BadLine, NoMemory, HostFault, SourceFault, AtEnd}
+use Rattle.play_run.specs.declared.player.Ended.TheVariants.{BadLine, NoMemory, HostFault, SourceFault, AtEnd, Damaged}
 use Rattle.play_run.specs.declared.player.TheConstants.{SCRIPT_LIMIT}
 use Rattle.play_run.proofs.Runs.{heard_run, heard_of}
 use Rattle.play_run.proofs.Taking.{stops_more, heard_same}
 
 -- ---- at the end of the input
 
-pub ends_empty : (tells : Bool) (base heard : Seen) (taken line_open : List ℕ) (p : PlainStore) (at : Place) (count : ℕ) → HasTaken tells base heard taken p at line_open count → length taken ≤ SCRIPT_LIMIT → line_open ≡ []
+pub ends_empty : (tells : Bool) (base heard : Seen) (taken line_open : List ℕ) (m : Position) (count : ℕ) → HasTaken tells base heard taken m line_open count → length taken ≤ SCRIPT_LIMIT → line_open ≡ []
     → EndsBy AtEnd tells base heard taken [] count
-ends_empty tells base heard taken line_open p at count t short none =
-    let h : HasHeard tells base heard t.texts = heard_run tells base heard t.texts p at count t.run in (
+ends_empty tells base heard taken line_open m count t short none =
+    let h : HasHeard tells base heard t.texts = heard_run tells base heard t.texts m count t.run in (
       refl,
       record {
         first = h.first;
@@ -49,12 +49,12 @@ last_of : (xs : List ℕ) → xs ≢ [] → last_line xs ≡ xs ∷ []
 last_of [] some = absurd (some refl)
 last_of (x ∷ xs) some = refl
 
-pub ends_last : (tells : Bool) (base heard heard' : Seen) (taken line_open : List ℕ) (p q : PlainStore) (at at' : Place) (count after : ℕ) → HasTaken tells base heard taken p at line_open count
+pub ends_last : (tells : Bool) (base heard heard' : Seen) (taken line_open : List ℕ) (m m' : Position) (count after : ℕ) → HasTaken tells base heard taken m line_open count
     → length taken ≤ SCRIPT_LIMIT → line_open ≢ []
-    → ((texts : List (List ℕ)) → IsText line_open → HasRun tells base heard texts p at count → HasRun tells base heard' (texts ++ line_open ∷ []) q at' after)
+    → ((texts : List (List ℕ)) → IsText line_open → HasRun tells base heard texts m count → HasRun tells base heard' (texts ++ line_open ∷ []) m' after)
     → EndsBy AtEnd tells base heard' taken [] after
-ends_last tells base heard heard' taken line_open p q at at' count after t short some run =
-    let h : HasHeard tells base heard' (t.texts ++ line_open ∷ []) = heard_run tells base heard' (t.texts ++ line_open ∷ []) q at' after (run t.texts t.no_newline t.run) in (
+ends_last tells base heard heard' taken line_open m m' count after t short some run =
+    let h : HasHeard tells base heard' (t.texts ++ line_open ∷ []) = heard_run tells base heard' (t.texts ++ line_open ∷ []) m' after (run t.texts t.no_newline t.run) in (
       refl,
       record {
         first = h.first;
@@ -74,9 +74,9 @@ ends_last tells base heard heard' taken line_open p q at at' count after t short
       },
     )
 
-pub ends_stops : (why : Ended) (tells : Bool) (base heard heard' : Seen) (taken line_open : List ℕ) (p : PlainStore) (at : Place) (count after : ℕ) → HasTaken tells base heard taken p at line_open count → line_open ≢ []
-    → StopsText why tells line_open p at count heard heard' → after ≡ count → EndsBy why tells base heard' taken [] after
-ends_stops BadLine tells base heard heard' taken line_open p at count after t some stop same = record {
+pub ends_stops : (why : Ended) (tells : Bool) (base heard heard' : Seen) (taken line_open : List ℕ) (m : Position) (count after : ℕ) → HasTaken tells base heard taken m line_open count → line_open ≢ []
+    → StopsText why tells line_open m count heard heard' → after ≡ count → EndsBy why tells base heard' taken [] after
+ends_stops BadLine tells base heard heard' taken line_open m count after t some stop same = record {
   texts = t.texts;
   taken = taken;
   rest = line_open;
@@ -84,10 +84,10 @@ ends_stops BadLine tells base heard heard' taken line_open p at count after t so
   cut = t.cut;
   bad = inr (inl (t.no_newline, stop.0, some, refl));
   counted = t.run.counted ∙ sym same;
-  run = heard_same tells base heard heard' t.texts (heard_run tells base heard t.texts p at count t.run) stop.1;
+  run = heard_same tells base heard heard' t.texts (heard_run tells base heard t.texts m count t.run) stop.1;
 }
-ends_stops NoMemory tells base heard heard' taken line_open p at count after t some stop same =
-    let h : HasHeardOf tells base heard' t.texts = heard_of tells base heard heard' t.texts (heard_run tells base heard t.texts p at count t.run) stop in
+ends_stops NoMemory tells base heard heard' taken line_open m count after t some stop same =
+    let h : HasHeardOf tells base heard' t.texts = heard_of tells base heard heard' t.texts (heard_run tells base heard t.texts m count t.run) stop in
     record {
       taken = taken;
       source = sym (append-nil taken);
@@ -98,7 +98,7 @@ ends_stops NoMemory tells base heard heard' taken line_open p at count after t s
       said_is = h.said_is;
       first_is = h.first_is;
     }
-ends_stops HostFault tells base heard heard' taken line_open p at count after t some stop same = by (stop base t.texts t.no_newline t.run) where
+ends_stops HostFault tells base heard heard' taken line_open m count after t some stop same = by (stop base t.texts t.no_newline t.run) where
   by : HasHeardPart tells base heard' t.texts ⊎ HasHeardPart tells base heard' (t.texts ++ line_open ∷ []) → EndsInPart tells base heard' taken []
   by (inl part) = record {
     taken = taken;
@@ -128,15 +128,29 @@ ends_stops HostFault tells base heard heard' taken line_open p at count after t 
     said_is = part.said_is;
     first_is = part.first_is;
   }
-ends_stops AtEnd tells base heard heard' taken line_open p at count after t some stop same = absurd stop
-ends_stops SourceFault tells base heard heard' taken line_open p at count after t some stop same = absurd stop
+ends_stops (Damaged file block) tells base heard heard' taken line_open m count after t some stop same =
+    let h : HasHeardOf tells base heard' t.texts = heard_of tells base heard heard' t.texts (heard_run tells base heard t.texts m count t.run) (λ told. absurd (stop told)) in (
+      record {
+        taken = taken;
+        source = sym (append-nil taken);
+        first = h.first;
+        last = h.last;
+        said = h.said;
+        some = record { texts = t.texts; rest = line_open; cut = t.cut; said_all = h.said_all };
+        said_is = h.said_is;
+        first_is = h.first_is;
+      },
+      stop,
+    )
+ends_stops AtEnd tells base heard heard' taken line_open m count after t some stop same = absurd stop
+ends_stops SourceFault tells base heard heard' taken line_open m count after t some stop same = absurd stop
 
 -- ---- after a read
 
-pub fault_ends : (tells : Bool) (base heard : Seen) (taken script left line_open : List ℕ) (p : PlainStore) (at : Place) (count : ℕ) → HasTaken tells base heard taken p at line_open count → length taken ≤ SCRIPT_LIMIT
+pub fault_ends : (tells : Bool) (base heard : Seen) (taken script left line_open : List ℕ) (m : Position) (count : ℕ) → HasTaken tells base heard taken m line_open count → length taken ≤ SCRIPT_LIMIT
     → script ≡ taken ++ left → EndsBy SourceFault tells base heard script left count
-fault_ends tells base heard taken script left line_open p at count t short source =
-    let h : HasHeard tells base heard t.texts = heard_run tells base heard t.texts p at count t.run in
+fault_ends tells base heard taken script left line_open m count t short source =
+    let h : HasHeard tells base heard t.texts = heard_run tells base heard t.texts m count t.run in
     record {
       taken = taken;
       source = source;
@@ -161,6 +175,18 @@ taken_so_far : (taken kept more left old script : List ℕ) → old ≡ (kept ++
 taken_so_far taken kept more left old script read source =
     source ∙ ap (λ o. taken ++ o) read ∙ sym (append_assoc taken (kept ++ more) left) ∙ ap (λ xs. xs ++ left) (sym (append_assoc taken kept more))
 
+among_ends : (tells : Bool) (base heard : Seen) (taken left script : List ℕ) → StopsAmong tells base heard taken → script ≡ taken ++ left → EndsAmong tells base heard script left
+among_ends tells base heard taken left script s source = record {
+  taken = taken;
+  source = source;
+  first = s.run.first;
+  last = s.run.last;
+  said = s.run.said;
+  some = record { texts = s.texts; rest = s.rest; cut = s.cut; said_all = s.run.said_all };
+  said_is = s.run.said_is;
+  first_is = s.run.first_is;
+}
+
 pub stops_ends : (why : Ended) (tells : Bool) (base heard : Seen) (taken kept more left old script : List ℕ) (count : ℕ) → Stops why tells base heard (taken ++ kept) count
     → old ≡ (kept ++ more) ++ left → script ≡ taken ++ old → EndsBy why tells base heard script left count
 stops_ends BadLine tells base heard taken kept more left old script count s read source =
@@ -176,17 +202,9 @@ stops_ends BadLine tells base heard taken kept more left old script count s read
       run = all.run;
     }
 stops_ends NoMemory tells base heard taken kept more left old script count s read source =
-    let all : StopsAmong tells base heard ((taken ++ kept) ++ more) = stops_more NoMemory tells base heard (taken ++ kept) more count s in
-    record {
-      taken = (taken ++ kept) ++ more;
-      source = taken_so_far taken kept more left old script read source;
-      first = all.run.first;
-      last = all.run.last;
-      said = all.run.said;
-      some = record { texts = all.texts; rest = all.rest; cut = all.cut; said_all = all.run.said_all };
-      said_is = all.run.said_is;
-      first_is = all.run.first_is;
-    }
+    among_ends tells base heard ((taken ++ kept) ++ more) left script (stops_more NoMemory tells base heard (taken ++ kept) more count s) (taken_so_far taken kept more left old script read source)
+stops_ends (Damaged file block) tells base heard taken kept more left old script count s read source =
+    (among_ends tells base heard ((taken ++ kept) ++ more) left script (stops_more NoMemory tells base heard (taken ++ kept) more count s.0) (taken_so_far taken kept more left old script read source), s.1)
 stops_ends HostFault tells base heard taken kept more left old script count s read source =
     let all : StopsInPart tells base heard ((taken ++ kept) ++ more) = stops_more HostFault tells base heard (taken ++ kept) more count s in
     record {
@@ -204,9 +222,9 @@ stops_ends AtEnd tells base heard taken kept more left old script count s read s
 stops_ends SourceFault tells base heard taken kept more left old script count s read source = absurd s
 
 -- the byte behind the limit was taken
-pub too_long_ends : (tells : Bool) (base heard : Seen) (taken kept left old script line_open : List ℕ) (p : PlainStore) (at : Place) (count byte : ℕ) → HasTaken tells base heard (taken ++ kept) p at line_open count
+pub too_long_ends : (tells : Bool) (base heard : Seen) (taken kept left old script line_open : List ℕ) (m : Position) (count byte : ℕ) → HasTaken tells base heard (taken ++ kept) m line_open count
     → old ≡ (kept ++ byte ∷ []) ++ left → script ≡ taken ++ old → length taken + (length kept + 1) ≡ SCRIPT_LIMIT + 1 → EndsBy BadLine tells base heard script left count
-too_long_ends tells base heard taken kept left old script line_open p at count byte t read source long = record {
+too_long_ends tells base heard taken kept left old script line_open m count byte t read source long = record {
   texts = t.texts;
   taken = (taken ++ kept) ++ byte ∷ [];
   rest = line_open ++ byte ∷ [];
@@ -214,13 +232,13 @@ too_long_ends tells base heard taken kept left old script line_open p at count b
   cut = ap (λ xs. xs ++ byte ∷ []) t.cut ∙ append_assoc (ended t.texts) line_open (byte ∷ []);
   bad = inr (inr (omega (arith, length-append (taken ++ kept) (byte ∷ []), length-append taken kept, long), (line_open, byte, t.no_newline, refl)));
   counted = t.run.counted;
-  run = heard_run tells base heard t.texts p at count t.run;
+  run = heard_run tells base heard t.texts m count t.run;
 }
 
 -- so many bytes more
-pub feeds : (tells : Bool) (base heard : Seen) (taken more left old script line_open : List ℕ) (p : PlainStore) (at : Place) (count n : ℕ) → HasTaken tells base heard (taken ++ more) p at line_open count
-    → old ≡ more ++ left → script ≡ taken ++ old → length more ≡ n → Feeds tells base heard taken script left p at line_open count n
-feeds tells base heard taken more left old script line_open p at count n t read source long = record {
+feeds : (tells : Bool) (base heard : Seen) (taken more left old script line_open : List ℕ) (m : Position) (count n : ℕ) → HasTaken tells base heard (taken ++ more) m line_open count
+    → old ≡ more ++ left → script ≡ taken ++ old → length more ≡ n → Feeds tells base heard taken script left m line_open count n
+feeds tells base heard taken more left old script line_open m count n t read source long = record {
   more = more;
   source = source ∙ ap (λ o. taken ++ o) read ∙ sym (append_assoc taken more left);
   long = long;
@@ -239,15 +257,20 @@ pub read_stops : (why : Ended) (tells : Bool) (base heard : Seen) (taken room le
 read_stops why tells base heard taken room left old script n m count s le given source =
     stops_ends why tells base heard taken (take m room) (take (n - m) (drop m room)) left old script count s (parts old room left n m le given) source
 
+pub read_feeds : (tells : Bool) (base heard : Seen) (taken room left old script line_open : List ℕ) (m : Position) (count n k : ℕ) → HasTaken tells base heard (taken ++ take k room) m line_open count → n ≡ k
+    → n ≤ length room → old ≡ take n room ++ left → script ≡ taken ++ old → Feeds tells base heard taken script left m line_open count n
+read_feeds tells base heard taken room left old script line_open m count n k t same fits given source =
+    feeds tells base heard taken (take k room) left old script line_open m count n t (given ∙ ap (λ i. take i room ++ left) same) source (omega (arith, length-take k room, same, fits))
+
 one_byte : (xs : List ℕ) → 1 ≤ length xs → take 1 xs ≡ get_or xs 0 0 ∷ []
 one_byte [] some = absurd (omega arith)
 one_byte (x ∷ xs) some = refl
 
-pub read_too_long : (tells : Bool) (base heard : Seen) (taken room left old script line_open : List ℕ) (p : PlainStore) (at : Place) (count n m : ℕ) → HasTaken tells base heard (taken ++ take m room) p at line_open count → n ≡ m + 1
+pub read_too_long : (tells : Bool) (base heard : Seen) (taken room left old script line_open : List ℕ) (m : Position) (count n k : ℕ) → HasTaken tells base heard (taken ++ take k room) m line_open count → n ≡ k + 1
     → n ≤ length room → old ≡ take n room ++ left → script ≡ taken ++ old → length taken + n ≡ SCRIPT_LIMIT + 1 → EndsBy BadLine tells base heard script left count
-read_too_long tells base heard taken room left old script line_open p at count n m t one fits given source long =
-    let behind : 1 ≤ length (drop m room) = omega (arith, length-drop m room) in
-    let single : take (n - m) (drop m room) ≡ get_or (drop m room) 0 0 ∷ [] = (let k : n - m ≡ 1 = omega arith in ap (λ k. take k (drop m room)) k) ∙ one_byte (drop m room) behind in
-    too_long_ends tells base heard taken (take m room) left old script line_open p at count (get_or (drop m room) 0 0) t
-    (parts old room left n m (omega arith) given ∙ ap (λ xs. (take m room ++ xs) ++ left) single) source
-    (omega (arith, length-take m room))
+read_too_long tells base heard taken room left old script line_open m count n k t one fits given source long =
+    let behind : 1 ≤ length (drop k room) = omega (arith, length-drop k room) in
+    let single : take (n - k) (drop k room) ≡ get_or (drop k room) 0 0 ∷ [] = (let one_more : n - k ≡ 1 = omega arith in ap (λ i. take i (drop k room)) one_more) ∙ one_byte (drop k room) behind in
+    too_long_ends tells base heard taken (take k room) left old script line_open m count (get_or (drop k room) 0 0) t
+    (parts old room left n k (omega arith) given ∙ ap (λ xs. (take k room ++ xs) ++ left) single) source
+    (omega (arith, length-take k room))

@@ -1,17 +1,16 @@
 -- What a run that has ended says of the whole program.
-use Rattle.std.proofs.Common.{◌≡◌, ◌≢◌, ℕ, ◌+◌, ◌<◌, ◌≤◌, Bool, true, false, List, [], ◌∷◌, ◌++◌, length, take, refl, sym, ap, subst, ◌∙◌, arith, append_assoc, append-nil, length-append, inl, inr}
+use Rattle.std.proofs.Common.{◌≡◌, ◌≢◌, ℕ, ◌+◌, ◌≤◌, Bool, true, false, List, [], ◌∷◌, ◌++◌, length, take, refl, sym, ap, subst, ◌∙◌, arith, append_assoc, append-nil, length-append, inl, inr}
 use Rattle.std.specs.Prelude.{IsTrue, ◌⊎◌}
 use Rattle.std.specs.List.{AllByRecursion}
 use Rattle.std.proofs.Math.Seq.{take-append-add}
 use Rattle.std.proofs.lemmas.Bool.{false≢true}
-use Rattle.block_host.specs.Disk.{risen}
 use Rattle.forest_model.specs.Blocks.{File}
-use Rattle.play_run.specs.Ledger.{Seen}
-use Rattle.play_run.specs.Script.{RunsAll, RunsWhole, RunsPrefix, MeetsBad, HoldsBad, HasBadLine, EndsBad, IsGood, IsBadLine, IsBadEnd, IsTooLong, IsText, AreTaken, ended, bad_line}
-use Rattle.play_run.specs.Play.{Leaves, Says, SaysPart, MaySay, PartSaid, SaidThen, Takes, Rests, RunsAndSays, source_fault}
-use Rattle.play_run.specs.Progress.{EndsBy, EndsWith, SaysEnd, EndsAtBad, EndsAmong, EndsAtFault, EndsInPart, EndsWhole}
+use Rattle.play_run.specs.Seen.{Seen}
+use Rattle.play_run.specs.Script.{RunsAll, RunsWhole, RunsPrefix, MeetsBad, HoldsBad, EndsBad, IsGood, IsBadLine, IsBadEnd, IsTooLong, IsText, AreTaken, ended, bad_line}
+use Rattle.play_run.specs.Play.{Leaves, Says, SaysPart, MaySay, PartSaid, Takes, RunsAndSays, source_fault}
+use Rattle.play_run.specs.Progress.{EndsBy, EndsWith, SaysEnd, EndsAtBad}
 use Rattle.play_run.specs.declared.player.Ended.{Ended}
-use Rattle.play_run.specs.declared.player.Ended.TheVariants.{BadLine, NoMemory, HostFault, SourceFault, AtEnd}
+use Rattle.play_run.specs.declared.player.Ended.TheVariants.{BadLine, NoMemory, HostFault, SourceFault, AtEnd, Damaged}
 use Rattle.play_run.specs.declared.player.TheConstants.{SCRIPT_LIMIT}
 use Rattle.play_run.proofs.Cuts.{good_texts, taken_texts, no_bad_line, no_bad_end, same_taken}
 
@@ -25,6 +24,11 @@ of_bad : (s n : ℕ) → (s ≡ 3) ⊎ ((s ≡ 4) ⊎ (s ≡ 5)) → s ≡ n →
 of_bad s n (inl e) is three four five = three (sym is ∙ e)
 of_bad s n (inr (inl e)) is three four five = four (sym is ∙ e)
 of_bad s n (inr (inr e)) is three four five = five (sym is ∙ e)
+
+of_damaged : (s n : ℕ) → (s ≡ 6) ⊎ ((s ≡ 4) ⊎ (s ≡ 5)) → s ≡ n → (n ≢ 6) → (n ≢ 4) → (n ≢ 5) → ⊥
+of_damaged s n (inl e) is six four five = six (sym is ∙ e)
+of_damaged s n (inr (inl e)) is six four five = four (sym is ∙ e)
+of_damaged s n (inr (inr e)) is six four five = five (sym is ∙ e)
 
 of_one : (s n m : ℕ) → s ≡ m → s ≡ n → (n ≢ m) → ⊥
 of_one s n m e is other = other (sym is ∙ e)
@@ -56,6 +60,7 @@ module _ (tells : Bool) (base heard now : Seen) (script left : List ℕ) (count 
   played_all BadLine e w s is = absurd (of_bad status 0 w is (λ x. absurd (omega (arith, x))) (λ x. absurd (omega (arith, x))) (λ x. absurd (omega (arith, x))))
   played_all NoMemory e w s is = absurd (of_one status 0 5 w is (λ x. absurd (omega (arith, x))))
   played_all HostFault e w s is = absurd (of_one status 0 4 w is (λ x. absurd (omega (arith, x))))
+  played_all (Damaged file block) e w s is = absurd (of_damaged status 0 w is (λ x. absurd (omega (arith, x))) (λ x. absurd (omega (arith, x))) (λ x. absurd (omega (arith, x))))
 
   pub played_fault : (why : Ended) → EndsBy why tells base heard script left count → EndsWith why status → (IsTrue tells → SaysEnd why status count heard now) → status ≡ 2
       → Takes script left (λ taken. Leaves tells base now (RunsAndSays source_fault taken))
@@ -76,6 +81,7 @@ module _ (tells : Bool) (base heard now : Seen) (script left : List ℕ) (count 
   played_fault BadLine e w s is = absurd (of_bad status 2 w is (λ x. absurd (omega (arith, x))) (λ x. absurd (omega (arith, x))) (λ x. absurd (omega (arith, x))))
   played_fault NoMemory e w s is = absurd (of_one status 2 5 w is (λ x. absurd (omega (arith, x))))
   played_fault HostFault e w s is = absurd (of_one status 2 4 w is (λ x. absurd (omega (arith, x))))
+  played_fault (Damaged file block) e w s is = absurd (of_damaged status 2 w is (λ x. absurd (omega (arith, x))) (λ x. absurd (omega (arith, x))) (λ x. absurd (omega (arith, x))))
 
   -- what is said behind the lines before a bad one
   meets_bad : (e : EndsAtBad tells base heard script left count) → MeetsBad e.run.first e.run.last e.taken left (e.run.said ++ bad_line (count + 1))
@@ -108,6 +114,7 @@ module _ (tells : Bool) (base heard now : Seen) (script left : List ℕ) (count 
   played_bad SourceFault e w s is = absurd (of_fault status 3 w is (λ x. absurd (omega (arith, x))) (λ x. absurd (omega (arith, x))))
   played_bad NoMemory e w s is = absurd (of_one status 3 5 w is (λ x. absurd (omega (arith, x))))
   played_bad HostFault e w s is = absurd (of_one status 3 4 w is (λ x. absurd (omega (arith, x))))
+  played_bad (Damaged file block) e w s is = absurd (of_damaged status 3 w is (λ x. absurd (omega (arith, x))) (λ x. absurd (omega (arith, x))) (λ x. absurd (omega (arith, x))))
 
   may_say : (taken whole : List ℕ) (first last : File) → RunsPrefix first last taken whole ⊎ RunsAll first last taken whole → MaySay taken left first last whole
   may_say taken whole first last (inl some) = inl some
@@ -148,6 +155,11 @@ module _ (tells : Bool) (base heard now : Seen) (script left : List ℕ) (count 
           first_is = e.run.first_is;
         },
       )
+  played_part (Damaged file block) e w s is = (
+    e.0.taken,
+    e.0.source,
+    record { first = e.0.first; last = e.0.last; whole = e.0.said; ran = inl e.0.some; n = 0; said_is = λ told. absurd (e.1 told); first_is = e.0.first_is },
+  )
   played_part AtEnd e w s is = absurd (of_one status 4 0 w is (λ x. absurd (omega (arith, x))))
   played_part NoMemory e w s is = absurd (of_one status 4 5 w is (λ x. absurd (omega (arith, x))))
 
@@ -169,6 +181,11 @@ module _ (tells : Bool) (base heard now : Seen) (script left : List ℕ) (count 
       said_is = λ told. ap (λ (x : Seen). x.said) ((s told).2 is) ∙ e.run.said_is told;
       first_is = e.run.first_is;
     },
+  )
+  played_some (Damaged file block) e w s is = (
+    e.0.taken,
+    e.0.source,
+    record { first = e.0.first; last = e.0.last; said = e.0.said; ran = e.0.some; said_is = λ told. absurd (e.1 told); first_is = e.0.first_is },
   )
   played_some AtEnd e w s is = absurd (of_one status 5 0 w is (λ x. absurd (omega (arith, x))))
   played_some SourceFault e w s is = absurd (of_fault status 5 w is (λ x. absurd (omega (arith, x))) (λ x. absurd (omega (arith, x))))
@@ -192,27 +209,39 @@ module _ (tells : Bool) (base heard now : Seen) (script left : List ℕ) (count 
       (sym all.cut ∙ same ∙ b.cut ∙ ap (λ xs. ended b.texts ++ xs) b.bad.4)
   not_whole first last said taken bad all short same (inr long) = absurd (omega (arith, short, long, ap length same))
 
-  pub met_bad : (why : Ended) → EndsBy why tells base heard script left count → EndsWith why status → Takes script left HoldsBad → (status ≡ 3) ⊎ ((status ≡ 4) ⊎ (status ≡ 5))
+  of_three : (status ≡ 3) ⊎ ((status ≡ 4) ⊎ (status ≡ 5)) → (status ≡ 3) ⊎ ((status ≡ 4) ⊎ ((status ≡ 5) ⊎ (status ≡ 6)))
+  of_three (inl e) = inl e
+  of_three (inr (inl e)) = inr (inl e)
+  of_three (inr (inr e)) = inr (inr (inl e))
+
+  of_six : (status ≡ 6) ⊎ ((status ≡ 4) ⊎ (status ≡ 5)) → (status ≡ 3) ⊎ ((status ≡ 4) ⊎ ((status ≡ 5) ⊎ (status ≡ 6)))
+  of_six (inl e) = inr (inr (inr e))
+  of_six (inr (inl e)) = inr (inl e)
+  of_six (inr (inr e)) = inr (inr (inl e))
+
+  pub met_bad : (why : Ended) → EndsBy why tells base heard script left count → EndsWith why status → Takes script left HoldsBad → (status ≡ 3) ⊎ ((status ≡ 4) ⊎ ((status ≡ 5) ⊎ (status ≡ 6)))
   met_bad AtEnd e w t = absurd (not_all e.1.first e.1.last e.1.said t.0 e.1.all e.1.short (whole_is t.0 e.0 t.1) t.2)
   met_bad SourceFault e w t = absurd (not_whole e.first e.last e.said e.taken t.0 e.whole e.short (same_taken script left e.taken t.0 e.source t.1) t.2)
-  met_bad BadLine e w t = w
-  met_bad NoMemory e w t = inr (inr w)
+  met_bad BadLine e w t = of_three w
+  met_bad NoMemory e w t = inr (inr (inl w))
   met_bad HostFault e w t = inr (inl w)
+  met_bad (Damaged file block) e w t = of_six w
 
-  as_two : (status ≡ 2) ⊎ (status ≡ 4) → (status ≡ 2) ⊎ ((status ≡ 3) ⊎ ((status ≡ 4) ⊎ (status ≡ 5)))
-  as_two (inl e) = inl e
-  as_two (inr e) = inr (inr (inl e))
+  of_two : (status ≡ 2) ⊎ (status ≡ 4) → (status ≡ 2) ⊎ ((status ≡ 3) ⊎ ((status ≡ 4) ⊎ ((status ≡ 5) ⊎ (status ≡ 6))))
+  of_two (inl e) = inl e
+  of_two (inr e) = inr (inr (inl e))
 
   pub met_bad_end : (why : Ended) → EndsBy why tells base heard script left count → EndsWith why status → Takes script left (λ taken. EndsBad taken left)
-      → (status ≡ 2) ⊎ ((status ≡ 3) ⊎ ((status ≡ 4) ⊎ (status ≡ 5)))
+      → (status ≡ 2) ⊎ ((status ≡ 3) ⊎ ((status ≡ 4) ⊎ ((status ≡ 5) ⊎ (status ≡ 6))))
   met_bad_end AtEnd e w t =
       let all = e.1.all in
       let b = t.2 in
       absurd (no_bad_end all.said_all.lines all.texts b.texts all.rest b.rest all.said_all.taken all.no_newline b.are_texts b.bad.0 b.bad.1 b.bad.2 (sym all.cut ∙ whole_is t.0 e.0 t.1 ∙ b.cut))
-  met_bad_end SourceFault e w t = as_two w
-  met_bad_end BadLine e w t = inr w
-  met_bad_end NoMemory e w t = inr (inr (inr w))
+  met_bad_end SourceFault e w t = of_two w
+  met_bad_end BadLine e w t = inr (of_three w)
+  met_bad_end NoMemory e w t = inr (inr (inr (inl w)))
   met_bad_end HostFault e w t = inr (inr (inl w))
+  met_bad_end (Damaged file block) e w t = inr (of_six w)
 
   -- ---- where nothing fails
 
@@ -229,9 +258,10 @@ module _ (tells : Bool) (base heard now : Seen) (script left : List ℕ) (count 
         no_bad_end g.lines g.texts e.texts g.rest e.rest g.taken g.no_newline are b.0 b.1 b.2 (sym g.cut ∙ e.source ∙ ap (λ xs. e.taken ++ xs) b.3 ∙ append-nil e.taken ∙ e.cut)
     by (inr (inr b)) = absurd (omega (arith, g.short, ap length e.source, length-append e.taken left, b.0))
 
-  pub completes : (why : Ended) → EndsBy why tells base heard script left count → EndsWith why status → IsGood script → (why ≡ SourceFault → ⊥) → (status ≡ 4 → ⊥) → (status ≡ 0) ⊎ (status ≡ 5)
-  completes AtEnd e w g source host = inl w
-  completes SourceFault e w g source host = absurd (source refl)
-  completes BadLine e w g source host = absurd (no_bad g e)
-  completes NoMemory e w g source host = inr w
-  completes HostFault e w g source host = absurd (host w)
+  pub completes : (why : Ended) → EndsBy why tells base heard script left count → EndsWith why status → IsTrue tells → IsGood script → (why ≡ SourceFault → ⊥) → (status ≡ 4 → ⊥) → (status ≡ 0) ⊎ (status ≡ 5)
+  completes AtEnd e w told g source host = inl w
+  completes SourceFault e w told g source host = absurd (source refl)
+  completes BadLine e w told g source host = absurd (no_bad g e)
+  completes NoMemory e w told g source host = inr w
+  completes HostFault e w told g source host = absurd (host w)
+  completes (Damaged file block) e w told g source host = absurd (e.1 told)

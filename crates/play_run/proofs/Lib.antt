@@ -1,12 +1,9 @@
-mod Live
-mod SealedBytes
-mod Headers
-mod Blocks
+mod Kept
+mod Refusing
+mod Answering
+mod Telling
 mod Starting
-mod PlainSteps
-mod PlainSaid
-mod Counted
-mod Committing
+mod Counts
 mod Runs
 mod Taking
 mod Stopping

@@ -1,26 +1,21 @@
 -- How a run of lines goes on, and what it says.
-use Rattle.std.proofs.Common.{◌≡◌, ℕ, suc, ◌+◌, ◌<◌, ◌≤◌, ◌^◌, List, [], ◌∷◌, ◌++◌, length, None, Bool, true, false, cond, eqb, refl, sym, ap, subst, ◌∙◌, arith, append_assoc, append-nil, length-append, take, inl}
+use Rattle.std.proofs.Common.{◌≡◌, ℕ, ◌+◌, ◌≤◌, List, [], ◌∷◌, ◌++◌, length, Bool, true, false, refl, sym, ap, subst, ◌∙◌, arith, append_assoc, append-nil, length-append, take}
 use Rattle.std.proofs.Math.Seq.{take-append-add, take-length}
 use Rattle.std.proofs.lemmas.Bool.{false≢true}
-use Rattle.std.specs.Prelude.{IsTrue, ◌==◌}
+use Rattle.std.specs.Prelude.{IsTrue}
+use Rattle.block_host.specs.Disk.{Disk}
+use Rattle.file_core.specs.Updates.{bytes_of}
 use Rattle.forest_model.specs.Blocks.{File}
-use Rattle.forest_model.specs.Session.{Session, Lane, first_lane, with_lane}
+use Rattle.forest_model.specs.Session.{Session}
 use Rattle.forest_model.specs.Session as sessions
 use Rattle.forest_model.specs.Run.{Run, FileAfter, call_in}
-use Rattle.forest_model.specs.State.{no_documents}
 use Rattle.forest_model.specs.declared.line.Line.{Line}
 use Rattle.forest_model.specs.declared.line.Told.{Told}
-use Rattle.forest_model.specs.declared.line.Said.{Said}
-use Rattle.forest_model.specs.declared.line.Said.TheVariants.{Committed}
-use Rattle.forest_model.specs.declared.line.Verb.{Verb}
-use Rattle.forest_model.specs.declared.line.Verb.TheVariants.{Set, Commit}
-use Rattle.play_run.specs.Built.{is_built}
-use Rattle.play_run.specs.Plain.{Hidden, session_at, state_at, lanes_at, lane_at, Stands, plain_answer, plain_told, after_commit, new_plain}
-use Rattle.play_run.specs.Ledger.{Place, Seen, PutsLine, bytes_of, new_place}
+use Rattle.play_run.specs.Seen.{Seen, seen, current}
+use Rattle.play_run.specs.Playing.{Position, IsAt, IsSomewhere, Leads}
 use Rattle.play_run.specs.Script.{start, IsTaken, AreTaken, IsText, ended, replies, reply_line, HasSaid}
-use Rattle.play_run.specs.Progress.{Reaches, HasRun, HasTaken, HasHeard, HasHeardOf, HasHeardPart, RunsText, IsWritten, IsFirst, IsStart}
-use Rattle.play_run.specs.declared.plain.PlainStore.{PlainStore}
-use Rattle.play_run.proofs.PlainSteps.{LineGoes, line_goes}
+use Rattle.play_run.specs.Progress.{HasRun, HasTaken, HasHeard, HasHeardOf, HasHeardPart, RunsText}
+use Rattle.play_run.proofs.Kept.{session_kept}
 
 -- one line more
 pub Run-push : (w : Session) (file : File) (lines : List Line) (told : List Told) (mid next : Session) (at grown : File) (line : Line) (t : Told)
@@ -35,50 +30,35 @@ Run-push w file (l ∷ lines) [] mid next at grown line t run tells grows = absu
 Run-push w file (l ∷ lines) (t' ∷ told) mid next at grown line t run tells grows =
     (run.0, run.1, run.2, run.3, Run-push run.0 run.1 lines told mid next at grown line t run.4 tells grows)
 
--- a new store's session
-new_hidden : Hidden
-new_hidden = record { old = no_documents; earlier = []; loose = 0; printed = 0 }
+-- a position over another disk, whose files are the same
+abbrev pub on_disk : Position → Disk → Position
+on_disk m disk = record { file = record { held = m.file.held; disk = disk; blocks = m.file.blocks }; lanes = m.lanes }
 
-same_lanes : lanes_at 0 ≡ (λ (_ : ℕ). first_lane)
-same_lanes = λ i m. same (m == 0) i where
-  same : (b : Bool) → cond b (lane_at 0) first_lane ≡ first_lane
-  same true = refl
-  same false = refl
+at_kept : (tells : Bool) (m : Position) (disk : Disk) (w : Session) (f : File) → (IsTrue tells → disk.files ≡ m.file.disk.files) → IsAt tells m w f → IsAt tells (on_disk m disk) w f
+at_kept tells m disk w f same h = session_kept tells m.file.held m.file.disk disk m.file.blocks m.file.blocks same (λ _. refl) m.lanes w f h
 
-starts : session_at new_plain new_hidden ≡ start
-unfolding new_hidden
-starts = ap (λ (lanes : ℕ → Lane). record { state = state_at new_plain new_hidden; lanes = lanes; copier = None }) same_lanes
-
-new_stands : Stands new_plain new_hidden
-unfolding new_hidden
-new_stands = record { seq = omega arith; committed = omega arith; commit = omega arith; same = λ _. refl; open_block = omega arith }
-
-new_written : (first : File) → IsFirst first → IsWritten new_hidden first new_place
-unfolding new_hidden
-new_written first is = record { loose = refl; number = sym is.one; header = is.header; from = is.from }
+-- the file is what reads give of file 1
+pub file_shown : (tells : Bool) (m : Position) (w : Session) (f : File) → IsAt tells m w f → IsTrue tells → f ≡ current m.file.disk
+file_shown tells m w f h told = h.file.file.shown told ∙ ap bytes_of (h.file.stands.shown told ∙ ap m.file.disk.files h.first_file)
 
 -- before the first line
-pub runs_none : (tells : Bool) (base : Seen) → IsStart tells base → HasRun tells base base [] new_plain new_place 0
-runs_none tells base s = record {
+pub runs_none : (tells : Bool) (base : Seen) (m : Position) (f : File) → IsAt tells m start f → (IsTrue tells → f ≡ base.file) → HasRun tells base base [] m 0
+runs_none tells base m f here same = record {
   lines = [];
   told = [];
   taken = tt;
   counted = refl;
-  places = omega arith;
-  first = s.first;
-  reaches = record { hidden = new_hidden; file = s.first; run = (starts, refl); stands = new_stands; written = new_written s.first s.is; few = omega (arith, s.is.one) };
-  said_is = λ told. sym (append-nil base.said);
-  first_is = s.same;
-  last_is = s.same;
+  first = f;
+  last = f;
+  after = start;
+  run = (refl, refl);
+  here = here;
+  said_is = λ _. sym (append-nil base.said);
+  first_is = same;
+  last_is = same;
 }
 
 -- ---- lists that grow by one
-
-pub same_length : (lines : List Line) (texts : List (List ℕ)) → AreTaken lines texts → length lines ≡ length texts
-same_length [] [] h = refl
-same_length (l ∷ lines) (t ∷ texts) h = ap suc (same_length lines texts h.2)
-same_length [] (t ∷ texts) h = absurd h
-same_length (l ∷ lines) [] h = absurd h
 
 pub AreTaken-push : (lines : List Line) (texts : List (List ℕ)) (line : Line) (text : List ℕ) → AreTaken lines texts → IsTaken line text → IsText text → AreTaken (lines ++ line ∷ []) (texts ++ text ∷ [])
 AreTaken-push [] [] line text h is plain = (is, plain, tt)
@@ -94,24 +74,13 @@ pub ended-push : (texts : List (List ℕ)) (text : List ℕ) → ended (texts ++
 ended-push [] text = refl
 ended-push (t ∷ texts) text = rw (ended-push texts text) (simp append_assoc)
 
--- ---- one line more
-
-commit_rises : (p : PlainStore) (b : Bool) → (cond {A = Said × PlainStore} b (Committed p.commit, p) (Committed (p.commit + 1), after_commit p)).1.place ≤ p.place + 1
-commit_rises p true = omega arith
-commit_rises p false = omega arith
-
-pub rises_once : (p : PlainStore) (verb : Verb) → (plain_answer p verb).1.place ≤ p.place + 1
-rises_once p (Set key meta body) = omega arith
-rises_once p Commit = commit_rises p (eqb p.seq p.committed)
-rises_once p verb = omega arith
-
 -- the lines run so far are a run
-pub heard_run : (tells : Bool) (base heard : Seen) (texts : List (List ℕ)) (p : PlainStore) (at : Place) (count : ℕ) → HasRun tells base heard texts p at count → HasHeard tells base heard texts
-heard_run tells base heard texts p at count r = record {
+pub heard_run : (tells : Bool) (base heard : Seen) (texts : List (List ℕ)) (m : Position) (count : ℕ) → HasRun tells base heard texts m count → HasHeard tells base heard texts
+heard_run tells base heard texts m count r = record {
   first = r.first;
-  last = r.reaches.file;
+  last = r.last;
   said = replies r.told;
-  said_all = record { lines = r.lines; told = r.told; taken = r.taken; after = session_at p r.reaches.hidden; run = r.reaches.run; is = refl };
+  said_all = record { lines = r.lines; told = r.told; taken = r.taken; after = r.after; run = r.run; is = refl };
   said_is = r.said_is;
   first_is = r.first_is;
   last_is = r.last_is;
@@ -140,74 +109,83 @@ heard_part tells base heard heard' texts h same = record {
   first_is = h.first_is;
 }
 
--- one line more is run, and its reply is said
-abbrev pub run_more : (tells : Bool) (base heard middle heard' : Seen) (texts : List (List ℕ)) (p q : PlainStore) (at at' : Place) (count : ℕ) (text bytes : List ℕ) (t : Told)
-    → HasRun tells base heard texts p at count → RunsText tells text p q at at' heard middle t → IsText text → count < 2 ^ 27 → bytes ≡ reply_line t
-    → (IsTrue tells → heard'.said ≡ middle.said ++ bytes) → (IsTrue tells → heard'.file ≡ middle.file) → HasRun tells base heard' (texts ++ text ∷ []) q at' (count + 1)
-run_more tells base heard middle heard' texts p q at at' count text bytes t r runs plain small bytes_are heard_are file_is =
-    let line = runs.line in
-    let goes = runs.goes.1 in
-    let before = r.reaches in
-    let long : length r.lines ≡ length texts = same_length r.lines texts r.taken in
-    let few : length before.file < 2 ^ 31 = omega (arith, before.few, long, r.counted, small) in
-    let l : LineGoes p before.hidden before.file at' goes.more line =
-    line_goes p before.hidden before.file at at' goes.more line before.stands before.written goes.puts runs.taken.built (omega (arith, r.places, small)) few in
+-- only the first of the last bytes were heard
+part_heard : (tells : Bool) (base middle heard' : Seen) (texts : List (List ℕ)) (first last : File) (before bytes whole : List ℕ) → HasSaid first last texts whole
+    → (IsTrue tells → first ≡ base.file) → (IsTrue tells → middle.said ≡ base.said ++ before) → (IsTrue tells → whole ≡ before ++ bytes)
+    → (IsTrue tells → (n : ℕ) × (n ≤ length bytes) × (heard'.said ≡ middle.said ++ take n bytes)) → HasHeardPart tells base heard' texts
+part_heard true base middle heard' texts first last before bytes whole said_all first_is before_is is part =
+    let p = part refl in
     record {
-      lines = r.lines ++ line ∷ [];
-      told = r.told ++ t ∷ [];
-      taken = AreTaken-push r.lines texts line text r.taken runs.taken plain;
+      first = first;
+      last = last;
+      whole = whole;
+      said_all = said_all;
+      n = length before + p.0;
+      said_is = λ _. p.2 ∙ ap (λ xs. xs ++ take p.0 bytes) (before_is refl) ∙ append_assoc base.said before (take p.0 bytes)
+          ∙ ap (λ xs. base.said ++ xs) (sym (take-append-add before bytes p.0)) ∙ ap (λ xs. base.said ++ take (length before + p.0) xs) (sym (is refl));
+      first_is = first_is;
+    }
+part_heard false base middle heard' texts first last before bytes whole said_all first_is before_is is part =
+    record { first = first; last = last; whole = whole; said_all = said_all; n = 0; said_is = λ told. absurd (false≢true told); first_is = first_is }
+
+-- ---- one line more
+
+-- after a line a position stands for a session again, whatever is said
+pub somewhere_more : (tells : Bool) (text : List ℕ) (m m' : Position) (heard middle : Seen) (disk : Disk) (t : Told) → RunsText tells text m m' heard middle t → IsSomewhere tells m
+    → (IsTrue tells → disk.files ≡ m'.file.disk.files) → IsSomewhere tells (on_disk m' disk)
+somewhere_more tells text m m' heard middle disk t runs at files_are =
+    let l : Leads tells m' at.0 at.1 runs.line t = runs.goes at.0 at.1 at.2 in
+    (l.next, l.grown, at_kept tells m' disk l.next l.grown files_are l.now)
+
+-- the text as what a slice of it shows
+pub runs_as : (tells : Bool) (slice text : List ℕ) (m m' : Position) (heard middle : Seen) (t : Told) → RunsText tells slice m m' heard middle t → slice ≡ text → RunsText tells text m m' heard middle t
+runs_as tells slice text m m' heard middle t runs same = subst (λ (xs : List ℕ). RunsText tells xs m m' heard middle t) same runs
+
+-- one line more is run, and its reply is said
+pub run_more : (tells : Bool) (base heard middle : Seen) (texts : List (List ℕ)) (m m' : Position) (disk : Disk) (count : ℕ) (text bytes : List ℕ) (t : Told)
+    → HasRun tells base heard texts m count → RunsText tells text m m' heard middle t → IsText text → bytes ≡ reply_line t
+    → (IsTrue tells → disk.said ≡ middle.said ++ bytes) → (IsTrue tells → disk.files ≡ m'.file.disk.files) → HasRun tells base (seen disk) (texts ++ text ∷ []) (on_disk m' disk) (count + 1)
+run_more tells base heard middle texts m m' disk count text bytes t r runs plain bytes_are heard_are files_are =
+    let l : Leads tells m' r.after r.last runs.line t = runs.goes r.after r.last r.here in
+    let here : IsAt tells (on_disk m' disk) l.next l.grown = at_kept tells m' disk l.next l.grown files_are l.now in
+    record {
+      lines = r.lines ++ runs.line ∷ [];
+      told = r.told ++ l.told ∷ [];
+      taken = AreTaken-push r.lines texts runs.line text r.taken runs.taken plain;
       counted = omega (arith, length-append texts (text ∷ []), r.counted);
-      places = omega (arith, ap (λ (s : PlainStore). s.place) goes.stored, rises_once p line.verb, r.places);
       first = r.first;
-      reaches = record {
-        hidden = l.after;
-        file = before.file ++ bytes_of goes.more;
-        run = subst (λ (s : PlainStore). Run start r.first (r.lines ++ line ∷ []) (r.told ++ t ∷ []) (session_at s l.after) (before.file ++ bytes_of goes.more)) (sym goes.stored)
-            (subst (λ (u : Told). Run start r.first (r.lines ++ line ∷ []) (r.told ++ u ∷ []) (session_at (plain_answer p line.verb).1 l.after) (before.file ++ bytes_of goes.more)) (sym runs.goes.0)
-            (Run-push start r.first r.lines r.told (session_at p before.hidden) (session_at (plain_answer p line.verb).1 l.after) before.file (before.file ++ bytes_of goes.more) line (plain_told p line) before.run (inl l.tells) l.grows));
-        stands = subst (λ (s : PlainStore). Stands s l.after) (sym goes.stored) l.stands;
-        written = l.written;
-        few = omega (arith, before.few, l.few, length-append r.lines (line ∷ []), length-append before.file (bytes_of goes.more));
-      };
-      said_is = λ told. heard_are told ∙ ap (λ xs. xs ++ bytes) (goes.silent told ∙ r.said_is told) ∙ ap (λ xs. (base.said ++ replies r.told) ++ xs) bytes_are
-          ∙ append_assoc base.said (replies r.told) (reply_line t) ∙ ap (λ xs. base.said ++ xs) (sym (replies-push r.told t));
+      last = l.grown;
+      after = l.next;
+      run = Run-push start r.first r.lines r.told r.after l.next r.last l.grown runs.line l.told r.run l.step l.grows;
+      here = here;
+      said_is = λ told. heard_are told ∙ ap (λ xs. xs ++ bytes) (runs.silent told ∙ r.said_is told) ∙ ap (λ xs. (base.said ++ replies r.told) ++ xs) (bytes_are ∙ ap reply_line (l.same told))
+          ∙ append_assoc base.said (replies r.told) (reply_line l.told) ∙ ap (λ xs. base.said ++ xs) (sym (replies-push r.told l.told));
       first_is = r.first_is;
-      last_is = λ told. ap (λ xs. xs ++ bytes_of goes.more) (r.last_is told) ∙ sym (goes.file told) ∙ sym (file_is told);
+      last_is = file_shown tells (on_disk m' disk) l.next l.grown here;
     }
 
 -- the same where only the first bytes of the reply are said
-pub run_part : (tells : Bool) (base heard middle heard' : Seen) (texts : List (List ℕ)) (p q : PlainStore) (at at' : Place) (count : ℕ) (text bytes : List ℕ) (t : Told)
-    → HasRun tells base heard texts p at count → RunsText tells text p q at at' heard middle t → IsText text → count < 2 ^ 27 → bytes ≡ reply_line t
+pub run_part : (tells : Bool) (base heard middle heard' : Seen) (texts : List (List ℕ)) (m m' : Position) (count : ℕ) (text bytes : List ℕ) (t : Told)
+    → HasRun tells base heard texts m count → RunsText tells text m m' heard middle t → IsText text → bytes ≡ reply_line t
     → (IsTrue tells → (n : ℕ) × (n ≤ length bytes) × (heard'.said ≡ middle.said ++ take n bytes)) → HasHeardPart tells base heard' (texts ++ text ∷ [])
-run_part tells base heard middle heard' texts p q at at' count text bytes t r runs plain small bytes_are part =
-    let whole : Seen = record { said = middle.said ++ bytes; file = middle.file } in
-    let m = run_more tells base heard middle whole texts p q at at' count text bytes t r runs plain small bytes_are (λ _. refl) (λ _. refl) in
-    let said : List ℕ = replies (r.told ++ t ∷ []) in
-    let said_all : HasSaid r.first m.reaches.file (texts ++ text ∷ []) said =
-    record { lines = m.lines; told = m.told; taken = m.taken; after = session_at q m.reaches.hidden; run = m.reaches.run; is = refl } in
-    by tells r.first_is (λ told. runs.goes.1.silent told ∙ r.said_is told) part r.first m.reaches.file said said_all (replies-push r.told t ∙ ap (λ xs. replies r.told ++ xs) (sym bytes_are)) where
-      by : (b : Bool) → (IsTrue b → r.first ≡ base.file) → (IsTrue b → middle.said ≡ base.said ++ replies r.told) → (IsTrue b → (n : ℕ) × (n ≤ length bytes) × (heard'.said ≡ middle.said ++ take n bytes))
-          → (first last : File) (said : List ℕ) → HasSaid r.first last (texts ++ text ∷ []) said → said ≡ replies r.told ++ bytes → HasHeardPart b base heard' (texts ++ text ∷ [])
-      by true first_is before part first last said said_all is =
-          let p = part refl in
-          record {
-            first = r.first;
-            last = last;
-            whole = said;
-            said_all = said_all;
-            n = length (replies r.told) + p.0;
-            said_is = λ _. p.2 ∙ ap (λ xs. xs ++ take p.0 bytes) (before refl) ∙ append_assoc base.said (replies r.told) (take p.0 bytes)
-                ∙ ap (λ xs. base.said ++ xs) (sym (take-append-add (replies r.told) bytes p.0)) ∙ ap (λ xs. base.said ++ take (length (replies r.told) + p.0) xs) (sym is);
-            first_is = first_is;
-          }
-      by false first_is before part first last said said_all is =
-          record { first = r.first; last = last; whole = said; said_all = said_all; n = 0; said_is = λ told. absurd (false≢true told); first_is = first_is }
+run_part tells base heard middle heard' texts m m' count text bytes t r runs plain bytes_are part =
+    let l : Leads tells m' r.after r.last runs.line t = runs.goes r.after r.last r.here in
+    let said_all : HasSaid r.first l.grown (texts ++ text ∷ []) (replies (r.told ++ l.told ∷ [])) =
+    record {
+      lines = r.lines ++ runs.line ∷ [];
+      told = r.told ++ l.told ∷ [];
+      taken = AreTaken-push r.lines texts runs.line text r.taken runs.taken plain;
+      after = l.next;
+      run = Run-push start r.first r.lines r.told r.after l.next r.last l.grown runs.line l.told r.run l.step l.grows;
+      is = refl;
+    } in
+    part_heard tells base middle heard' (texts ++ text ∷ []) r.first l.grown (replies r.told) bytes (replies (r.told ++ l.told ∷ [])) said_all r.first_is
+    (λ told. runs.silent told ∙ r.said_is told) (λ told. replies-push r.told l.told ∙ ap (λ xs. replies r.told ++ xs) (ap reply_line (sym (l.same told)) ∙ sym bytes_are)) part
 
 -- before the first byte
-pub before_first : (tells : Bool) (base : Seen) (p : PlainStore) (at : Place) (line_open : List ℕ) → IsStart tells base → p ≡ new_plain → at ≡ new_place → line_open ≡ []
-    → HasTaken tells base base [] p at line_open 0
-before_first tells base p at line_open start store place none =
-    subst (λ (s : PlainStore). HasTaken tells base base [] s at line_open 0) (sym store)
-    (subst (λ (a : Place). HasTaken tells base base [] new_plain a line_open 0) (sym place)
-    (subst (λ o. HasTaken tells base base [] new_plain new_place o 0) (sym none)
-    (record { texts = []; cut = refl; no_newline = tt; run = runs_none tells base start })))
+pub before_first : (tells : Bool) (base : Seen) (m : Position) (f : File) (line_open : List ℕ) (count : ℕ) → IsAt tells m start f → (IsTrue tells → f ≡ base.file) → line_open ≡ [] → count ≡ 0
+    → HasTaken tells base base [] m line_open count
+before_first tells base m f line_open count here same none zero =
+    subst (λ (n : ℕ). HasTaken tells base base [] m line_open n) (sym zero)
+    (subst (λ (o : List ℕ). HasTaken tells base base [] m o 0) (sym none)
+    (record { texts = []; cut = refl; no_newline = tt; run = runs_none tells base m f here same }))

@@ -1,22 +1,64 @@
 -- What the run of a script says of the program, by what its parts say.
-use Rattle.std.proofs.Common.{◌≡◌, ℕ, ◌<◌, ◌≤◌, Bool, true, List, [], ◌∷◌, ◌++◌, length, take, refl, sym, ap, subst, ◌∙◌, arith, append-nil, length-append, inl, inr}
-use Rattle.std.specs.Prelude.{IsTrue, ◌⊎◌}
-use Rattle.std.proofs.lemmas.List.{append_cancel_right}
+use Rattle.std.proofs.Common.{◌≡◌, ℕ, Bool, List, [], ◌∷◌, ◌++◌, length, take, refl, sym, ap, subst, ◌∙◌, arith, append-nil, length-append, inl, inr}
+use Rattle.std.specs.Prelude.{IsTrue}
+use Rattle.block_host.specs.Calls.{Reads}
+use Rattle.block_host.specs.Disk.{Disk, Image}
+use Rattle.block_host.specs.declared.block.Block.{Block}
+use Rattle.file_core.specs.Held.{held}
+use Rattle.file_core.specs.Updates.{bytes_of}
+use Rattle.file_core.specs.declared.state.FileState.{FileState}
 use Rattle.forest_model.specs.Blocks.{File}
-use Rattle.play_run.specs.Ledger.{Place, Seen}
-use Rattle.play_run.specs.Script.{start, HasSaid, RunsPrefix, HoldsBad, HasBadLine, EndsBad, ended}
+use Rattle.forest_model.specs.declared.call.StoreRef.{StoreRef}
+use Rattle.forest_model.specs.declared.state.State.{State}
+use Rattle.play_run.specs.Seen.{Seen, seen}
+use Rattle.play_run.specs.Playing.{Opened, IsSomewhere, StandsFor, opened, position}
+use Rattle.play_run.specs.Script.{start, HasSaid, RunsPrefix, HoldsBad, EndsBad, ended}
 use Rattle.play_run.specs.Play.{Leaves, Says, SaysPart, MaySay, Takes}
-use Rattle.play_run.specs.Progress.{HasTaken, EndsBy, IsStart, FaultsAfter}
-use Rattle.play_run.specs.declared.plain.PlainStore.{PlainStore}
-use Rattle.block_host.specs.Disk.{risen}
+use Rattle.play_run.specs.Progress.{HasTaken, EndsBy, SaysEnd}
 use Rattle.play_run.specs.declared.player.Ended.{Ended}
-use Rattle.play_run.specs.declared.player.Ended.TheVariants.{BadLine, NoMemory, HostFault, SourceFault, AtEnd}
+use Rattle.play_run.proofs.Taking.{taken_same}
 
-pub script_ends : (why : Ended) (tells : Bool) (base s0 s1 s2 : Seen) (script left : List ℕ) (p : PlainStore) (at : Place) (line_open : List ℕ) (c n n' : ℕ) → s0 ≡ base → HasTaken tells base base [] p at line_open c
-    → ((b : Seen) → HasTaken tells b s0 [] p at line_open c → EndsBy why tells b s1 script left n) → s2 ≡ s1 → n' ≡ n → EndsBy why tells base s2 script left n'
-script_ends why tells base s0 s1 s2 script left p at line_open c n n' e0 has run e2 en =
-    subst (λ k. EndsBy why tells base s2 script left k) (sym en)
-    (subst (λ (s : Seen). EndsBy why tells base s script left n) (sym e2) (run base (subst (λ (s : Seen). HasTaken tells base s [] p at line_open c) (sym e0) has)))
+-- a disk whose files and said bytes stay shows the same
+pub seen_by : (old new : Disk) → new.files ≡ old.files → new.said ≡ old.said → seen new ≡ seen old
+seen_by old new files said = λ i. record { said = said i; file = bytes_of (files i 1) }
+
+pub seen_same : (old new : Disk) → Reads old new → seen new ≡ seen old
+seen_same old new r = seen_by old new r.files r.said
+
+-- what a closed host shows
+pub closed_seen : {H V F : Type 0} (disk : H → Disk) (there closed : FileState H V F) (now : Disk) → closed ≡ there → Reads (disk closed.parts.host) now → seen now ≡ seen (disk there.parts.host)
+closed_seen {H} {V} {F} disk there closed now same reads = seen_same (disk closed.parts.host) now reads ∙ ap (λ (f : FileState H V F). seen (disk f.parts.host)) same
+
+-- the file of a new store that was opened, as the host showed it before
+opened_file : (tells : Bool) (old : Disk) (o : Opened) (s : State) (f : File) → StandsFor tells o s f → o.held.revision ≡ 1 → (IsTrue tells → Reads old o.disk) → IsTrue tells → f ≡ (seen old).file
+opened_file tells old o s f h one reads told =
+    h.file.shown told ∙ ap bytes_of (h.stands.shown told ∙ ap o.disk.files one ∙ ap (λ (files : Image). files 1) (reads told).files)
+
+-- before its first line a player stands where its file does
+pub somewhere_first : {H V F : Type 0} (tells : Bool) (disk : H → Disk) (content : V → List Block) (f there : FileState H V F) (lanes : List StoreRef) → f ≡ there
+    → IsSomewhere tells (position (disk there.parts.host) (content there.parts.view) there.parts lanes) → IsSomewhere tells (position (disk f.parts.host) (content f.parts.view) f.parts lanes)
+somewhere_first {H} {V} {F} tells disk content f there lanes same at =
+    subst (λ (g : FileState H V F). IsSomewhere tells (position (disk g.parts.host) (content g.parts.view) g.parts lanes)) (sym same) at
+
+-- how a run ends over a new store that was opened, and what is said at its end
+module _ {H V F : Type 0} (tells : Bool) (disk : H → Disk) (content : V → List Block) (base : Disk) (there : FileState H V F) (state : State) (stood : (f : File) × StandsFor tells (opened (disk there.parts.host) (content there.parts.view) there.parts) state f)
+    (one : (held there.parts).revision ≡ 1) (reads : IsTrue tells → Reads base (disk there.parts.host)) where
+  pub script_ends : (why : Ended) (f : FileState H V F) (lanes : List StoreRef) (line_open : List ℕ) (c n n' : ℕ) (s1 : Seen) (script left : List ℕ) → f ≡ there
+      → ((s : Seen) (g : File) → StandsFor tells (opened (disk there.parts.host) (content there.parts.view) there.parts) state g → (IsTrue tells → g ≡ s.file)
+      → HasTaken tells s s [] (position (disk there.parts.host) (content there.parts.view) there.parts lanes) line_open c)
+      → ((s : Seen) → HasTaken tells s (seen (disk f.parts.host)) [] (position (disk f.parts.host) (content f.parts.view) f.parts lanes) line_open c → EndsBy why tells s s1 script left n)
+      → n' ≡ n → EndsBy why tells (seen base) s1 script left n'
+  script_ends why f lanes line_open c n n' s1 script left same first run count =
+      let has : HasTaken tells (seen base) (seen (disk there.parts.host)) [] (position (disk there.parts.host) (content there.parts.view) there.parts lanes) line_open c =
+      taken_same tells (seen base) (seen base) (seen (disk there.parts.host)) [] (position (disk there.parts.host) (content there.parts.view) there.parts lanes) line_open c
+      (first (seen base) stood.0 stood.1 (opened_file tells base (opened (disk there.parts.host) (content there.parts.view) there.parts) state stood.0 stood.1 one reads))
+      (λ told. seen_same base (disk there.parts.host) (reads told)) in
+      subst (λ (k : ℕ). EndsBy why tells (seen base) s1 script left k) (sym count)
+      (run (seen base) (subst (λ (g : FileState H V F). HasTaken tells (seen base) (seen (disk g.parts.host)) [] (position (disk g.parts.host) (content g.parts.view) g.parts lanes) line_open c) (sym same) has))
+
+-- what is said at the end, behind what the closed host shows
+pub says_end : (why : Ended) (tells : Bool) (s1 s2 now : Seen) (status n : ℕ) → (IsTrue tells → s2 ≡ s1) → (IsTrue tells → SaysEnd why status n s2 now) → IsTrue tells → SaysEnd why status n s1 now
+says_end why tells s1 s2 now status n same says told = subst (λ (s : Seen). SaysEnd why status n s now) (same told) (says told)
 
 -- nothing is run
 none_run : (first : File) → HasSaid first first [] []
@@ -25,11 +67,18 @@ none_run first = record { lines = []; told = []; taken = tt; after = start; run 
 no_prefix : (first : File) → RunsPrefix first first [] []
 no_prefix first = record { texts = []; rest = []; cut = refl; said_all = none_run first }
 
-pub nothing_run : (tells : Bool) (base : Seen) (script : List ℕ) → IsStart tells base → Takes script script (λ taken. Says tells base base (λ first last. RunsPrefix first last taken))
-nothing_run tells base script s = (
+pub nothing_run : (tells : Bool) (base now : Seen) (script : List ℕ) → (IsTrue tells → now ≡ base) → Takes script script (λ taken. Says tells base now (λ first last. RunsPrefix first last taken))
+nothing_run tells base now script same = (
   [],
   refl,
-  record { first = s.first; last = s.first; said = []; ran = no_prefix s.first; said_is = λ told. sym (append-nil base.said); first_is = s.same },
+  record {
+    first = base.file;
+    last = base.file;
+    said = [];
+    ran = no_prefix base.file;
+    said_is = λ told. ap (λ (s : Seen). s.said) (same told) ∙ sym (append-nil base.said);
+    first_is = λ _. refl;
+  },
 )
 
 pub nothing_said : (tells : Bool) (base now : Seen) (script left : List ℕ) → (IsTrue tells → now ≡ base) → Takes script script (λ taken. SaysPart tells base now (MaySay taken left))
@@ -83,26 +132,23 @@ leaves_from tells base before now P same l = record {
   last_is = l.last_is;
 }
 
-up : (x b c d : ℕ) → x ≤ b → c ≡ b → c ≤ d → x ≤ d
-up x b c d f closed no_less = omega (arith, f, closed, no_less)
+pub says_from : (tells : Bool) (base before now : Seen) (P : File → File → List ℕ → Type 0) → (IsTrue tells → before ≡ base) → Says tells before now P → Says tells base now P
+says_from tells base before now P same l = record {
+  first = l.first;
+  last = l.last;
+  said = l.said;
+  ran = l.ran;
+  said_is = λ told. l.said_is told ∙ ap (λ (s : Seen). s.said ++ l.said) (same told);
+  first_is = λ told. l.first_is told ∙ ap (λ (s : Seen). s.file) (same told);
+}
 
-pub not_both : (a b : ℕ) → a < b → b ≤ a → ⊥
-not_both a b less more = omega (arith, less, more)
-
--- the host's count rose where the run, or what was said at its end, failed
-pub rose : (why : Ended) (a a' b c d : ℕ) → a' ≡ a → FaultsAfter why a' b → c ≡ b → (why ≡ HostFault) ⊎ (risen c ≤ d) → c ≤ d → risen a ≤ d
-rose why a a' b c d same after closed said no_less = subst (λ n. risen n ≤ d) same (by said) where
-  failed : (w : Ended) → FaultsAfter w a' b → (risen a' ≤ b) ⊎ (b ≡ a')
-  failed HostFault f = inl f
-  failed AtEnd f = inr f
-  failed SourceFault f = inr f
-  failed BadLine f = inr f
-  failed NoMemory f = inr f
-
-  kept : (risen a' ≤ b) ⊎ (b ≡ a') → risen c ≤ d → risen a' ≤ d
-  kept (inl f) r = up (risen a') b c d f closed no_less
-  kept (inr f) r = subst (λ n. risen n ≤ d) (closed ∙ f) r
-
-  by : (why ≡ HostFault) ⊎ (risen c ≤ d) → risen a' ≤ d
-  by (inl is) = up (risen a') b c d (subst (λ (w : Ended). FaultsAfter w a' b) is after) closed no_less
-  by (inr r) = kept (failed why after) r
+pub part_from : (tells : Bool) (base before now : Seen) (P : File → File → List ℕ → Type 0) → (IsTrue tells → before ≡ base) → SaysPart tells before now P → SaysPart tells base now P
+part_from tells base before now P same l = record {
+  first = l.first;
+  last = l.last;
+  whole = l.whole;
+  ran = l.ran;
+  n = l.n;
+  said_is = λ told. l.said_is told ∙ ap (λ (s : Seen). s.said ++ take l.n l.whole) (same told);
+  first_is = λ told. l.first_is told ∙ ap (λ (s : Seen). s.file) (same told);
+}

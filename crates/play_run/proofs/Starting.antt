@@ -1,6 +1,6 @@
 -- The files of a new store.
-use Rattle.std.proofs.Common.{◌≡◌, ℕ, suc, ◌+◌, ◌^◌, Bool, true, false, ◌&&◌, eqb, eq-eqb, List, [], ◌∷◌, length, Option, Some, None, refl, sym, ap, subst, ◌∙◌, arith}
-use Rattle.std.specs.Prelude.{IsTrue, ◌==◌, ◌↔◌, slice_get, unwrap_or}
+use Rattle.std.proofs.Common.{◌≡◌, ℕ, Bool, true, false, ◌&&◌, eq-eqb, List, [], ◌∷◌, length, refl, sym, ap, subst, ◌∙◌, arith}
+use Rattle.std.specs.Prelude.{IsTrue, ◌==◌, ◌↔◌}
 use Rattle.std.proofs.lemmas.Bool.{false≢true, eqb-true}
 use Rattle.block_host.specs.Calls.{block_at}
 use Rattle.block_host.specs.Disk.{Image}
@@ -8,12 +8,7 @@ use Rattle.block_host.specs.Sealed.{IsSealed, zero_block}
 use Rattle.block_host.specs.declared.block.Block.{Block}
 use Rattle.header_block.specs.Layout.{header_bytes}
 use Rattle.meta_slots.specs.Slots.{slot_bytes}
-use Rattle.forest_model.specs.Blocks.{File, is_header, last_header}
-use Rattle.play_run.specs.Ledger.{Seen, bytes_of}
 use Rattle.file_image.specs.NewStore.{IsNewStore, new_header}
-use Rattle.play_run.specs.Progress.{IsStart, IsFirst}
-use Rattle.play_run.proofs.SealedBytes.{kind_at, from_of}
-use Rattle.play_run.proofs.Headers.{last-new}
 
 -- two blocks that are sealed alike are the same
 same_block : (revision at kind : ℕ) (payload : List ℕ) (a b : Block) → IsSealed revision at kind payload a → IsSealed revision at kind payload b → a ≡ b
@@ -64,21 +59,6 @@ new_store files slot header meta file is_slot is_zero is_first s h two one a b c
       (a.1 (ap (λ f. block_at f 0) n.meta ∙ same_block 0 0 5 (slot_bytes 1 1) n.slot slot n.slot_is s))
       (b.1 (ap (λ f. block_at f 1) n.meta))
       (c.1 (ap (λ f. block_at f 0) n.file ∙ same_block 1 0 4 (header_bytes new_header) n.header header n.header_is h))
-
--- a file of one header
-first_file : (header : Block) → IsSealed 1 0 4 (header_bytes new_header) header → IsFirst (bytes_of (header ∷ []))
-first_file header h = record {
-  one = refl;
-  header = last-new [] header.bytes (ap (λ k. k == 4) (kind_at 1 0 4 (header_bytes new_header) header h));
-  from = from_of 0 new_header header h (omega arith);
-}
-
-pub starts_with : (tells : Bool) (base : Seen) (header : Block) → IsSealed 1 0 4 (header_bytes new_header) header → (IsTrue tells → base.file ≡ bytes_of (header ∷ [])) → IsStart tells base
-starts_with tells base header h same = record { first = bytes_of (header ∷ []); is = first_file header h; same = λ told. sym (same told) }
-
--- the one block of a new store's file is the header
-pub one_header : (files : Image) (header : Block) → IsSealed 1 0 4 (header_bytes new_header) header → IsNewStore files → files 1 ≡ header ∷ []
-one_header files header h n = n.file ∙ (λ i. same_block 1 0 4 (header_bytes new_header) n.header header n.header_is h i ∷ [])
 
 -- the same by what five calls gave, each of the files that the one before left
 module _ (f0 f1 f2 f3 f4 : Image) (slot header : Block) (meta file is_slot is_zero is_first : Bool) where

@@ -2,14 +2,14 @@
 use Rattle.std.proofs.Common.{◌≡◌, ◌≢◌, ℕ, ◌+◌, ◌<◌, Bool, List, [], ◌∷◌, ◌++◌, length, take, drop, get_or, suc, sym, ap, subst, ◌∙◌, append_assoc, append-nil, drop-cons, arith, inl, inr}
 use Rattle.std.specs.Prelude.{IsTrue, ◌⊎◌}
 use Rattle.std.proofs.lemmas.List.{take-append-drop}
-use Rattle.std.proofs.Math.Seq.{take-suc}
+use Rattle.std.proofs.Math.Seq.{take-suc, take-length}
 use Rattle.play_run.specs.Script.{IsText, ended}
-use Rattle.play_run.specs.Ledger.{Place, Seen}
+use Rattle.play_run.specs.Seen.{Seen}
+use Rattle.play_run.specs.Playing.{Position}
 use Rattle.play_run.specs.Progress.{HasRun, HasTaken, HasHeard, HasHeardPart, Stops, StopsText, StopsAmong, StopsInPart}
-use Rattle.play_run.specs.declared.plain.PlainStore.{PlainStore}
 use Rattle.play_run.specs.declared.player.Ended.{Ended}
-use Rattle.play_run.specs.declared.player.Ended.TheVariants.{BadLine, NoMemory, HostFault, SourceFault, AtEnd}
-use Rattle.play_run.proofs.Runs.{ended-push, heard_run, heard_of, heard_part}
+use Rattle.play_run.specs.declared.player.Ended.TheVariants.{BadLine, NoMemory, HostFault, SourceFault, AtEnd, Damaged}
+use Rattle.play_run.proofs.Runs.{ended-push, heard_run, heard_of}
 
 -- what is heard of a host that tells is one thing: equal is the same
 pub heard_same : (tells : Bool) (base heard heard' : Seen) (texts : List (List ℕ)) → HasHeard tells base heard texts → (IsTrue tells → heard' ≡ heard) → HasHeard tells base heard' texts
@@ -23,11 +23,34 @@ heard_same tells base heard heard' texts h same = record {
   last_is = λ told. h.last_is told ∙ ap (λ (s : Seen). s.file) (sym (same told));
 }
 
+-- the same of what was taken
+pub taken_same : (tells : Bool) (base heard heard' : Seen) (taken : List ℕ) (m : Position) (line_open : List ℕ) (count : ℕ) → HasTaken tells base heard taken m line_open count → (IsTrue tells → heard' ≡ heard)
+    → HasTaken tells base heard' taken m line_open count
+taken_same tells base heard heard' taken m line_open count t same = record {
+  texts = t.texts;
+  cut = t.cut;
+  no_newline = t.no_newline;
+  run = record {
+    lines = t.run.lines;
+    told = t.run.told;
+    taken = t.run.taken;
+    counted = t.run.counted;
+    first = t.run.first;
+    last = t.run.last;
+    after = t.run.after;
+    run = t.run.run;
+    here = t.run.here;
+    said_is = λ told. ap (λ (s : Seen). s.said) (same told) ∙ t.run.said_is told;
+    first_is = t.run.first_is;
+    last_is = λ told. t.run.last_is told ∙ ap (λ (s : Seen). s.file) (sym (same told));
+  };
+}
+
 -- the newline that ends the open line, once that line was run
-pub ends_line : (tells : Bool) (base heard heard' : Seen) (taken line_open : List ℕ) (p q : PlainStore) (at at' : Place) (count after : ℕ) → HasTaken tells base heard taken p at line_open count
-    → ((texts : List (List ℕ)) → IsText line_open → HasRun tells base heard texts p at count → HasRun tells base heard' (texts ++ line_open ∷ []) q at' after)
-    → HasTaken tells base heard' (taken ++ 10 ∷ []) q at' [] after
-ends_line tells base heard heard' taken line_open p q at at' count after t run = record {
+pub ends_line : (tells : Bool) (base heard heard' : Seen) (taken line_open : List ℕ) (m m' : Position) (count after : ℕ) → HasTaken tells base heard taken m line_open count
+    → ((texts : List (List ℕ)) → IsText line_open → HasRun tells base heard texts m count → HasRun tells base heard' (texts ++ line_open ∷ []) m' after)
+    → HasTaken tells base heard' (taken ++ 10 ∷ []) m' [] after
+ends_line tells base heard heard' taken line_open m m' count after t run = record {
   texts = t.texts ++ line_open ∷ [];
   cut = ap (λ xs. xs ++ 10 ∷ []) t.cut ∙ sym (ended-push t.texts line_open) ∙ sym (append-nil (ended (t.texts ++ line_open ∷ [])));
   no_newline = tt;
@@ -39,9 +62,9 @@ IsText-push [] byte h other = (other, tt)
 IsText-push (b ∷ text) byte h other = (h.0, IsText-push text byte h.1 other)
 
 -- another byte
-pub goes_on_line : (tells : Bool) (base heard : Seen) (taken line_open : List ℕ) (p : PlainStore) (at : Place) (count byte : ℕ) → HasTaken tells base heard taken p at line_open count → byte ≢ 10
-    → HasTaken tells base heard (taken ++ byte ∷ []) p at (line_open ++ byte ∷ []) count
-goes_on_line tells base heard taken line_open p at count byte t other = record {
+pub goes_on_line : (tells : Bool) (base heard : Seen) (taken line_open : List ℕ) (m : Position) (count byte : ℕ) → HasTaken tells base heard taken m line_open count → byte ≢ 10
+    → HasTaken tells base heard (taken ++ byte ∷ []) m (line_open ++ byte ∷ []) count
+goes_on_line tells base heard taken line_open m count byte t other = record {
   texts = t.texts;
   cut = ap (λ xs. xs ++ byte ∷ []) t.cut ∙ append_assoc (ended t.texts) line_open (byte ∷ []);
   no_newline = IsText-push line_open byte t.no_newline other;
@@ -49,19 +72,19 @@ goes_on_line tells base heard taken line_open p at count byte t other = record {
 }
 
 -- where memory runs out, some of the lines were run
-pub among : (tells : Bool) (base heard heard' : Seen) (taken more line_open : List ℕ) (p : PlainStore) (at : Place) (count : ℕ) → HasTaken tells base heard taken p at line_open count
+pub among : (tells : Bool) (base heard heard' : Seen) (taken more line_open : List ℕ) (m : Position) (count : ℕ) → HasTaken tells base heard taken m line_open count
     → (IsTrue tells → heard'.said ≡ heard.said) → StopsAmong tells base heard' (taken ++ more)
-among tells base heard heard' taken more line_open p at count t same = record {
+among tells base heard heard' taken more line_open m count t same = record {
   texts = t.texts;
   rest = line_open ++ more;
   cut = ap (λ xs. xs ++ more) t.cut ∙ append_assoc (ended t.texts) line_open more;
-  run = heard_of tells base heard heard' t.texts (heard_run tells base heard t.texts p at count t.run) same;
+  run = heard_of tells base heard heard' t.texts (heard_run tells base heard t.texts m count t.run) same;
 }
 
 -- a newline behind a text that stops the run
-pub stops_line : (why : Ended) (tells : Bool) (base heard heard' : Seen) (taken line_open : List ℕ) (p : PlainStore) (at : Place) (count after : ℕ) → HasTaken tells base heard taken p at line_open count
-    → StopsText why tells line_open p at count heard heard' → after ≡ count → Stops why tells base heard' (taken ++ 10 ∷ []) after
-stops_line BadLine tells base heard heard' taken line_open p at count after t stop same = record {
+pub stops_line : (why : Ended) (tells : Bool) (base heard heard' : Seen) (taken line_open : List ℕ) (m : Position) (count after : ℕ) → HasTaken tells base heard taken m line_open count
+    → StopsText why tells line_open m count heard heard' → after ≡ count → Stops why tells base heard' (taken ++ 10 ∷ []) after
+stops_line BadLine tells base heard heard' taken line_open m count after t stop same = record {
   texts = t.texts;
   bad = line_open;
   more = [];
@@ -69,10 +92,10 @@ stops_line BadLine tells base heard heard' taken line_open p at count after t st
   no_newline = t.no_newline;
   no_line = stop.0;
   counted = t.run.counted ∙ sym same;
-  run = heard_same tells base heard heard' t.texts (heard_run tells base heard t.texts p at count t.run) stop.1;
+  run = heard_same tells base heard heard' t.texts (heard_run tells base heard t.texts m count t.run) stop.1;
 }
-stops_line NoMemory tells base heard heard' taken line_open p at count after t stop same = among tells base heard heard' taken (10 ∷ []) line_open p at count t stop
-stops_line HostFault tells base heard heard' taken line_open p at count after t stop same = by (stop base t.texts t.no_newline t.run) where
+stops_line NoMemory tells base heard heard' taken line_open m count after t stop same = among tells base heard heard' taken (10 ∷ []) line_open m count t stop
+stops_line HostFault tells base heard heard' taken line_open m count after t stop same = by (stop base t.texts t.no_newline t.run) where
   by : HasHeardPart tells base heard' t.texts ⊎ HasHeardPart tells base heard' (t.texts ++ line_open ∷ []) → StopsInPart tells base heard' (taken ++ 10 ∷ [])
   by (inl part) = record {
     texts = t.texts;
@@ -86,8 +109,10 @@ stops_line HostFault tells base heard heard' taken line_open p at count after t 
     cut = ap (λ xs. xs ++ 10 ∷ []) t.cut ∙ sym (ended-push t.texts line_open) ∙ sym (append-nil (ended (t.texts ++ line_open ∷ [])));
     run = part;
   }
-stops_line AtEnd tells base heard heard' taken line_open p at count after t stop same = absurd stop
-stops_line SourceFault tells base heard heard' taken line_open p at count after t stop same = absurd stop
+stops_line (Damaged file block) tells base heard heard' taken line_open m count after t stop same =
+    (among tells base heard heard' taken (10 ∷ []) line_open m count t (λ told. absurd (stop told)), stop)
+stops_line AtEnd tells base heard heard' taken line_open m count after t stop same = absurd stop
+stops_line SourceFault tells base heard heard' taken line_open m count after t stop same = absurd stop
 
 -- further bytes behind what stops the run
 pub stops_more : (why : Ended) (tells : Bool) (base heard : Seen) (taken more : List ℕ) (count : ℕ) → Stops why tells base heard taken count → Stops why tells base heard (taken ++ more) count
@@ -113,22 +138,31 @@ stops_more HostFault tells base heard taken more count s = record {
   cut = ap (λ xs. xs ++ more) s.cut ∙ append_assoc (ended s.texts) s.rest more;
   run = s.run;
 }
+stops_more (Damaged file block) tells base heard taken more count s = (
+  record {
+    texts = s.0.texts;
+    rest = s.0.rest ++ more;
+    cut = ap (λ xs. xs ++ more) s.0.cut ∙ append_assoc (ended s.0.texts) s.0.rest more;
+    run = s.0.run;
+  },
+  s.1,
+)
 stops_more AtEnd tells base heard taken more count s = absurd s
 stops_more SourceFault tells base heard taken more count s = absurd s
 
 -- ---- the same by what the calls of a player say
 
-pub ends_line_by : (tells : Bool) (base heard heard' : Seen) (taken line_open after_open : List ℕ) (p q : PlainStore) (at at' : Place) (count after byte : ℕ) → HasTaken tells base heard taken p at line_open count
-    → ((texts : List (List ℕ)) → IsText line_open → HasRun tells base heard texts p at count → HasRun tells base heard' (texts ++ line_open ∷ []) q at' after)
-    → byte ≡ 10 → after_open ≡ [] → HasTaken tells base heard' (taken ++ byte ∷ []) q at' after_open after
-ends_line_by tells base heard heard' taken line_open after_open p q at at' count after byte t run newline none =
-    subst (λ b. HasTaken tells base heard' (taken ++ b ∷ []) q at' after_open after) (sym newline)
-    (subst (λ o. HasTaken tells base heard' (taken ++ 10 ∷ []) q at' o after) (sym none) (ends_line tells base heard heard' taken line_open p q at at' count after t run))
+pub ends_line_by : (tells : Bool) (base heard heard' : Seen) (taken line_open after_open : List ℕ) (m m' : Position) (count after byte : ℕ) → HasTaken tells base heard taken m line_open count
+    → ((texts : List (List ℕ)) → IsText line_open → HasRun tells base heard texts m count → HasRun tells base heard' (texts ++ line_open ∷ []) m' after)
+    → byte ≡ 10 → after_open ≡ [] → HasTaken tells base heard' (taken ++ byte ∷ []) m' after_open after
+ends_line_by tells base heard heard' taken line_open after_open m m' count after byte t run newline none =
+    subst (λ b. HasTaken tells base heard' (taken ++ b ∷ []) m' after_open after) (sym newline)
+    (subst (λ o. HasTaken tells base heard' (taken ++ 10 ∷ []) m' o after) (sym none) (ends_line tells base heard heard' taken line_open m m' count after t run))
 
-pub stops_line_by : (why : Ended) (tells : Bool) (base heard heard' : Seen) (taken line_open : List ℕ) (p : PlainStore) (at : Place) (count after byte : ℕ) → HasTaken tells base heard taken p at line_open count
-    → StopsText why tells line_open p at count heard heard' → after ≡ count → byte ≡ 10 → Stops why tells base heard' (taken ++ byte ∷ []) after
-stops_line_by why tells base heard heard' taken line_open p at count after byte t stop same newline =
-    subst (λ b. Stops why tells base heard' (taken ++ b ∷ []) after) (sym newline) (stops_line why tells base heard heard' taken line_open p at count after t stop same)
+pub stops_line_by : (why : Ended) (tells : Bool) (base heard heard' : Seen) (taken line_open : List ℕ) (m : Position) (count after byte : ℕ) → HasTaken tells base heard taken m line_open count
+    → StopsText why tells line_open m count heard heard' → after ≡ count → byte ≡ 10 → Stops why tells base heard' (taken ++ byte ∷ []) after
+stops_line_by why tells base heard heard' taken line_open m count after byte t stop same newline =
+    subst (λ b. Stops why tells base heard' (taken ++ b ∷ []) after) (sym newline) (stops_line why tells base heard heard' taken line_open m count after t stop same)
 
 -- the bytes behind the one that stops the run
 pub stops_within : (why : Ended) (tells : Bool) (base heard : Seen) (taken bytes : List ℕ) (i byte count : ℕ) → i < length bytes → byte ≡ get_or bytes i 0
@@ -139,10 +173,15 @@ stops_within why tells base heard taken bytes i byte count small is s =
       whole front xs i byte small is = append_assoc (front ++ take i xs) (byte ∷ []) (drop (suc i) xs) ∙ append_assoc front (take i xs) (byte ∷ drop (suc i) xs)
           ∙ ap (λ ys. front ++ ys) (ap (λ b. take i xs ++ (b ∷ drop (suc i) xs)) is ∙ ap (λ ys. take i xs ++ ys) (sym (drop-cons xs i 0 small)) ∙ take-append-drop i xs)
 
-pub byte_taken : (tells : Bool) (base heard : Seen) (taken bytes line_open : List ℕ) (p : PlainStore) (at : Place) (i byte count : ℕ) → i < length bytes → byte ≡ get_or bytes i 0
-    → HasTaken tells base heard ((taken ++ take i bytes) ++ byte ∷ []) p at line_open count → HasTaken tells base heard (taken ++ take (i + 1) bytes) p at line_open count
-byte_taken tells base heard taken bytes line_open p at i byte count small is has =
-    subst (λ xs. HasTaken tells base heard xs p at line_open count)
+pub byte_taken : (tells : Bool) (base heard : Seen) (taken bytes line_open : List ℕ) (m : Position) (i byte count : ℕ) → i < length bytes → byte ≡ get_or bytes i 0
+    → HasTaken tells base heard ((taken ++ take i bytes) ++ byte ∷ []) m line_open count → HasTaken tells base heard (taken ++ take (i + 1) bytes) m line_open count
+byte_taken tells base heard taken bytes line_open m i byte count small is has =
+    subst (λ xs. HasTaken tells base heard xs m line_open count)
     (append_assoc taken (take i bytes) (byte ∷ []) ∙ ap (λ b. taken ++ (take i bytes ++ b ∷ [])) is ∙ ap (λ xs. taken ++ xs) (next bytes i small)) has where
       next : (xs : List ℕ) (i : ℕ) → i < length xs → take i xs ++ get_or xs i 0 ∷ [] ≡ take (i + 1) xs
       next xs i small = sym (take-suc xs i 0 small) ∙ ap (λ (k : ℕ). take k xs) (let e : suc i ≡ i + 1 = omega arith in e)
+
+pub all_taken : (tells : Bool) (base heard : Seen) (taken bytes line_open : List ℕ) (m : Position) (i count : ℕ) → i ≡ length bytes
+    → HasTaken tells base heard (taken ++ take i bytes) m line_open count → HasTaken tells base heard (taken ++ bytes) m line_open count
+all_taken tells base heard taken bytes line_open m i count all has =
+    subst (λ (xs : List ℕ). HasTaken tells base heard (taken ++ xs) m line_open count) (ap (λ (k : ℕ). take k bytes) all ∙ take-length bytes) has

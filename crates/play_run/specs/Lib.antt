@@ -1,6 +1,7 @@
 pub mod Built
-pub mod Plain
-pub mod Ledger
+pub mod Seen
+pub mod Playing
 pub mod Script
 pub mod Play
 pub mod Progress
+pub mod Refused

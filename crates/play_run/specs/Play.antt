@@ -1,8 +1,9 @@
 -- What a run of a script has said, taken and left in the end.
 use Rattle.std.specs.Prelude.{◌≡◌, ◌⊎◌, ◌<◌, ℕ, Bool, IsTrue, List, [], ◌∷◌, ◌++◌, take, codes}
+use Rattle.std.specs.Fmt.{decimal}
 use Rattle.block_host.specs.Disk.{risen}
 use Rattle.forest_model.specs.Blocks.{File}
-use Rattle.play_run.specs.Ledger.{Seen}
+use Rattle.play_run.specs.Seen.{Seen}
 use Rattle.play_run.specs.Script.{RunsAll, RunsWhole, RunsPrefix, MeetsBad}
 
 -- What a run has come to: the current file's first and last blocks and the bytes said since. Where the host tells them, they are those that it saw.
@@ -61,6 +62,9 @@ source_fault = codes "source fault" ++ 10 ∷ []
 
 abbrev pub no_store : List ℕ
 no_store = codes "no store" ++ 10 ∷ []
+
+abbrev pub damaged : ℕ → ℕ → List ℕ
+damaged file block = codes "damaged " ++ decimal file ++ codes " " ++ decimal block ++ 10 ∷ []
 
 -- all whole lines were run, and then a text was said
 abbrev pub RunsAndSays : List ℕ → List ℕ → File → File → List ℕ → Type 0

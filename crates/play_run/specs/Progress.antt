@@ -1,54 +1,40 @@
--- How far a player has come: what its plain store and its file stand for, and what was said.
-use Rattle.std.specs.Prelude.{◌≡◌, ℕ, ◌+◌, ◌*◌, ◌<◌, ◌≤◌, ◌⊎◌, Bool, IsTrue, List, [], ◌∷◌, ◌++◌, length, take, Some}
-use Rattle.forest_model.specs.Blocks.{File, last_header, block_at, wal_from}
+-- How far a player has come: what its open file stands for, and what was said.
+use Rattle.std.specs.Prelude.{◌≡◌, ℕ, ◌+◌, ◌<◌, ◌≤◌, ◌⊎◌, Bool, IsTrue, List, [], ◌∷◌, ◌++◌, length, take}
+use Rattle.forest_model.specs.Blocks.{File}
 use Rattle.forest_model.specs.Run.{Run}
 use Rattle.forest_model.specs.declared.line.Line.{Line}
 use Rattle.forest_model.specs.declared.line.Told.{Told}
-use Rattle.play_run.specs.Plain.{Hidden, session_at, Stands, AreWithin}
-use Rattle.play_run.specs.Ledger.{Place, Seen, TellsLine}
+use Rattle.forest_model.specs.Session.{Session}
+use Rattle.play_run.specs.Seen.{Seen}
+use Rattle.play_run.specs.Playing.{Position, IsAt, TellsLine}
 use Rattle.block_host.specs.Disk.{risen}
-use Rattle.play_run.specs.Play.{SaidThen, PartSaid, source_fault}
+use Rattle.play_run.specs.Play.{SaidThen, PartSaid, source_fault, damaged}
 use Rattle.play_run.specs.Script.{start, bad_line, IsTaken, AreTaken, IsText, IsBad, ended, replies, HasSaid, RunsAll, RunsWhole, RunsPrefix, IsBadLine, IsBadEnd, IsTooLong}
-use Rattle.play_run.specs.declared.plain.PlainStore.{PlainStore}
 use Rattle.play_run.specs.declared.player.Ended.{Ended}
-use Rattle.play_run.specs.declared.player.Ended.TheVariants.{BadLine, NoMemory, HostFault, SourceFault, AtEnd}
+use Rattle.play_run.specs.declared.player.Ended.TheVariants.{BadLine, NoMemory, HostFault, SourceFault, AtEnd, Damaged}
 use Rattle.play_run.specs.declared.player.TheConstants.{SCRIPT_LIMIT}
 
--- The file's writer stands at its end: the open block comes next, and the last header has no flush behind it.
-pub record IsWritten (h : Hidden) (file : File) (at : Place) : Type 0 where
-  pub loose : h.loose ≡ length at.open_block.bytes
-  pub number : at.open_block.number ≡ length file
-  pub header : last_header file ≡ Some at.header_at
-  pub from : wal_from (block_at file at.header_at) ≡ 1
-
--- The run of these lines comes to a session for which the store stands, and to a file with few blocks, at whose end the writer is.
-pub record Reaches (first : File) (lines : List Line) (told : List Told) (p : PlainStore) (at : Place) : Type 0 where
-  pub hidden : Hidden
-  pub file : File
-  pub run : Run start first lines told (session_at p hidden) file
-  pub stands : Stands p hidden
-  pub written : IsWritten hidden file at
-  pub few : length file ≤ 1 + 2 * length lines
-
--- The lines of these texts were run, and their replies were said behind what had been said before.
-pub record HasRun (tells : Bool) (base heard : Seen) (texts : List (List ℕ)) (p : PlainStore) (at : Place) (count : ℕ) : Type 0 where
+-- The lines of these texts were run from the first file on, and their replies were said behind what had been said before.
+pub record HasRun (tells : Bool) (base heard : Seen) (texts : List (List ℕ)) (m : Position) (count : ℕ) : Type 0 where
   pub lines : List Line
   pub told : List Told
   pub taken : AreTaken lines texts
   pub counted : length texts ≡ count
-  pub places : p.place ≤ count
   pub first : File
-  pub reaches : Reaches first lines told p at
+  pub last : File
+  pub after : Session
+  pub run : Run start first lines told after last
+  pub here : IsAt tells m after last
   pub said_is : IsTrue tells → heard.said ≡ base.said ++ replies told
   pub first_is : IsTrue tells → first ≡ base.file
-  pub last_is : IsTrue tells → reaches.file ≡ heard.file
+  pub last_is : IsTrue tells → last ≡ heard.file
 
 -- The bytes taken are the lines run, and an open line.
-pub record HasTaken (tells : Bool) (base heard : Seen) (taken : List ℕ) (p : PlainStore) (at : Place) (open_line : List ℕ) (count : ℕ) : Type 0 where
+pub record HasTaken (tells : Bool) (base heard : Seen) (taken : List ℕ) (m : Position) (open_line : List ℕ) (count : ℕ) : Type 0 where
   pub texts : List (List ℕ)
   pub cut : taken ≡ ended texts ++ open_line
   pub no_newline : IsText open_line
-  pub run : HasRun tells base heard texts p at count
+  pub run : HasRun tells base heard texts m count
 
 -- these lines were run, and what was heard since is their replies
 pub record HasHeard (tells : Bool) (base heard : Seen) (texts : List (List ℕ)) : Type 0 where
@@ -105,63 +91,57 @@ abbrev pub Stops : Ended → Bool → Seen → Seen → List ℕ → ℕ → Typ
 Stops BadLine tells base heard taken count = StopsAtBad tells base heard taken count
 Stops NoMemory tells base heard taken count = StopsAmong tells base heard taken
 Stops HostFault tells base heard taken count = StopsInPart tells base heard taken
+Stops (Damaged file block) tells base heard taken count = StopsAmong tells base heard taken × ¬ (IsTrue tells)
 Stops AtEnd tells base heard taken count = ⊥
 Stops SourceFault tells base heard taken count = ⊥
 
 -- A text is a line that the store has run over its file, and this is told for it.
-pub record RunsText (tells : Bool) (text : List ℕ) (p p' : PlainStore) (at at' : Place) (before now : Seen) (t : Told) : Type 0 where
+pub record RunsText (tells : Bool) (text : List ℕ) (m m' : Position) (before now : Seen) (t : Told) : Type 0 where
   pub line : Line
   pub taken : IsTaken line text
-  pub goes : TellsLine tells p p' at at' before now line t
+  pub goes : TellsLine tells m m' line t
+  pub silent : IsTrue tells → now.said ≡ before.said
 
 -- Why the run of one text stops: it is no line, or there is no memory, and nothing was said; or the host failed, and at
 -- most the first bytes of the reply were said.
-abbrev pub StopsText : Ended → Bool → List ℕ → PlainStore → Place → ℕ → Seen → Seen → Type 0
-StopsText BadLine tells text p at count before after = IsBad text × (IsTrue tells → after ≡ before)
-StopsText NoMemory tells text p at count before after = IsTrue tells → after.said ≡ before.said
-StopsText HostFault tells text p at count before after =
-    (base : Seen) (texts : List (List ℕ)) → IsText text → HasRun tells base before texts p at count
+abbrev pub StopsText : Ended → Bool → List ℕ → Position → ℕ → Seen → Seen → Type 0
+StopsText BadLine tells text m count before after = IsBad text × (IsTrue tells → after ≡ before)
+StopsText NoMemory tells text m count before after = IsTrue tells → after.said ≡ before.said
+StopsText HostFault tells text m count before after =
+    (base : Seen) (texts : List (List ℕ)) → IsText text → HasRun tells base before texts m count
     → HasHeardPart tells base after texts ⊎ HasHeardPart tells base after (texts ++ text ∷ [])
-StopsText AtEnd tells text p at count before after = ⊥
-StopsText SourceFault tells text p at count before after = ⊥
+StopsText (Damaged file block) tells text m count before after = ¬ (IsTrue tells)
+StopsText AtEnd tells text m count before after = ⊥
+StopsText SourceFault tells text m count before after = ⊥
 
 -- the same where nothing is known of what was said
-abbrev pub IsStop : Ended → Type 0
-IsStop AtEnd = ⊥
-IsStop SourceFault = ⊥
-IsStop ended = Unit {0}
+abbrev pub IsStop : Bool → Ended → Type 0
+IsStop tells AtEnd = ⊥
+IsStop tells SourceFault = ⊥
+IsStop tells (Damaged file block) = ¬ (IsTrue tells)
+IsStop tells ended = Unit {0}
 
--- the host's count rose exactly where the host failed
-abbrev pub FaultsAfter : Ended → ℕ → ℕ → Type 0
-FaultsAfter HostFault before after = risen before ≤ after
+-- a damaged block is met of no file that is told
+abbrev pub IsSound : Bool → Ended → Type 0
+IsSound tells (Damaged file block) = ¬ (IsTrue tells)
+IsSound tells ended = Unit {0}
+
+-- the counts of faults of a host, and of the view through which its file is read
+pub record Faults : Type 0 where
+  pub host : ℕ
+  pub view : ℕ
+
+-- a count rose exactly where the host failed
+abbrev pub FaultsAfter : Ended → Faults → Faults → Type 0
+FaultsAfter HostFault before after = (risen before.host ≤ after.host) ⊎ ((before.host ≤ after.host) × (risen before.view ≤ after.view))
 FaultsAfter ended before after = after ≡ before
 
--- the store's numbers are at most the place, that is at most the count of lines, and each line adds few blocks
-pub record IsCounted (p : PlainStore) (at : Place) (count : ℕ) : Type 0 where
-  pub within : AreWithin p
-  pub places : p.place ≤ count
-  pub blocks : at.open_block.number ≤ 1 + 2 * count
-  pub header : at.header_at ≤ at.open_block.number
-  pub not_full : length at.open_block.bytes < 4064
-
--- The file of a new store: one header, whose records stand behind it.
-pub record IsFirst (file : File) : Type 0 where
-  pub one : length file ≡ 1
-  pub header : last_header file ≡ Some 0
-  pub from : wal_from (block_at file 0) ≡ 1
-
--- a new store is seen where the host tells its content; and there are such files
-pub record IsStart (tells : Bool) (base : Seen) : Type 0 where
-  pub first : File
-  pub is : IsFirst first
-  pub same : IsTrue tells → first ≡ base.file
-
 -- So many more bytes of a script were taken, and others are left.
-pub record Feeds (tells : Bool) (base heard : Seen) (taken script left : List ℕ) (p : PlainStore) (at : Place) (line_open : List ℕ) (count n : ℕ) : Type 0 where
+pub record Feeds (tells : Bool) (base heard : Seen) (taken script left : List ℕ) (m : Position) (line_open : List ℕ) (count n : ℕ) : Type 0 where
   pub more : List ℕ
   pub source : script ≡ taken ++ more ++ left
   pub long : length more ≡ n
-  pub has : HasTaken tells base heard (taken ++ more) p at line_open count
+  pub has : HasTaken tells base heard (taken ++ more) m line_open count
 
 -- What the run of a source's bytes has come to, with what the source had and still has.
 pub record EndsAtBad (tells : Bool) (base heard : Seen) (script left : List ℕ) (count : ℕ) : Type 0 where
@@ -223,6 +203,7 @@ EndsBy SourceFault tells base heard script left count = EndsAtFault tells base h
 EndsBy BadLine tells base heard script left count = EndsAtBad tells base heard script left count
 EndsBy NoMemory tells base heard script left count = EndsAmong tells base heard script left
 EndsBy HostFault tells base heard script left count = EndsInPart tells base heard script left
+EndsBy (Damaged file block) tells base heard script left count = EndsAmong tells base heard script left × ¬ (IsTrue tells)
 
 -- the status in which a run may end
 abbrev pub EndsWith : Ended → ℕ → Type 0
@@ -231,6 +212,7 @@ EndsWith SourceFault status = (status ≡ 2) ⊎ (status ≡ 4)
 EndsWith BadLine status = (status ≡ 3) ⊎ ((status ≡ 4) ⊎ (status ≡ 5))
 EndsWith NoMemory status = status ≡ 5
 EndsWith HostFault status = status ≡ 4
+EndsWith (Damaged file block) status = (status ≡ 6) ⊎ ((status ≡ 4) ⊎ (status ≡ 5))
 
 -- what is said at the end of a run of so many lines
 abbrev pub SaysEnd : Ended → ℕ → ℕ → Seen → Seen → Type 0
@@ -238,4 +220,6 @@ SaysEnd SourceFault status count before now =
     (status ≡ 2 → SaidThen source_fault before now) × (status ≡ 4 → PartSaid source_fault before now)
 SaysEnd BadLine status count before now =
     (status ≡ 3 → SaidThen (bad_line (count + 1)) before now) × (status ≡ 4 → PartSaid (bad_line (count + 1)) before now) × (status ≡ 5 → now ≡ before)
+SaysEnd (Damaged file block) status count before now =
+    (status ≡ 6 → SaidThen (damaged file block) before now) × (status ≡ 4 → PartSaid (damaged file block) before now) × (status ≡ 5 → now ≡ before)
 SaysEnd ended status count before now = now ≡ before

@@ -1,16 +1,15 @@
-//! The run of a script: lines are read, run over a store in memory and its file, and answered, one after another.
+//! The run of a script: lines are read, run over an open file, and answered, one after another.
 //!
 //! `play` promises that what it says is the text of the run of the sequential store over the script's lines, that the
 //! file which it leaves is the last file of that run, and that each of its statuses has its cause. A line is run and
 //! answered as soon as it is whole.
 #![tactic(auto)]
 
-mod ledger;
 mod opening;
-mod plain;
-mod plain_file;
 mod player;
 mod program;
+mod session;
+mod verbs;
 
 pub use player::SCRIPT_LIMIT;
 pub use program::{Played, play};

@@ -1,5 +1,5 @@
-// A host for tests: it holds the files of a new store, keeps what it is told to say, counts the bytes where others see
-// it, and may fail at one call.
+// A host for tests that tells nothing: it holds the files of a new store, keeps what it is told to say, counts the bytes
+// where others see it, and may fail at one call or show a block as zeros.
 ghost use Rattle.std.specs.Prelude.{[], false};
 ghost use Rattle.block_host.specs.Disk.{untold, not_told};
 
@@ -18,6 +18,8 @@ pub(crate) struct Listener {
     pub(crate) heard: Arc<AtomicUsize>,
     /// The number of the `say` that fails, counted from 1; 0 where none does.
     pub(crate) fails_at: u64,
+    /// The block of file 1 that views give as zeros; 0 where none is.
+    pub(crate) spoiled: u64,
     faults: u64,
 }
 
@@ -30,20 +32,24 @@ impl Listener {
             file,
             heard: Arc::new(alloc, AtomicUsize::new(0))?,
             fails_at: 0,
+            spoiled: 0,
             faults: 0,
         })
     }
 }
 
 #[derive(Drop)]
-pub(crate) struct NoView;
+pub(crate) struct Shown {
+    blocks: Vec<Block>,
+    spoiled: u64,
+}
 
 #[derive(Drop)]
 pub(crate) struct NoFresh {
     file: u64,
 }
 
-impl View for NoView {
+impl View for Shown {
     ghost tells = { false };
 
     ghost content = { λ _. [] };
@@ -51,11 +57,14 @@ impl View for NoView {
     ghost faults = { λ _. 0 };
 
     fn size(&self) -> u64 {
-        0
+        self.blocks.len() as u64
     }
 
-    fn read(&mut self, _at: u64, out: &mut Block) -> Result<(), Failed> {
-        *out = Block::zeros();
+    fn read(&mut self, at: u64, out: &mut Block) -> Result<(), Failed> {
+        *out = match self.blocks.get(at as usize) {
+            Some(block) if at != self.spoiled => *block,
+            _ => Block::zeros(),
+        };
         Ok(())
     }
 }
@@ -87,7 +96,7 @@ impl Fresh for NoFresh {
 }
 
 impl Host for Listener {
-    type View = NoView;
+    type View = Shown;
 
     type Fresh = NoFresh;
 
@@ -154,15 +163,25 @@ impl Host for Listener {
         true
     }
 
-    fn view(&mut self, _file: u64) -> Result<NoView, Failed> {
-        Ok(NoView)
+    fn view(&mut self, _file: u64) -> Result<Shown, Failed> {
+        match self.file.clone() {
+            Ok(blocks) => Ok(Shown {
+                blocks,
+                spoiled: self.spoiled,
+            }),
+            Err(_) => {
+                self.faults = self.faults.saturating_add(1);
+                Err(Failed)
+            }
+        }
     }
 
-    fn renew(&mut self, _file: u64, _view: &mut NoView) -> Result<(), Failed> {
+    fn renew(&mut self, file: u64, view: &mut Shown) -> Result<(), Failed> {
+        *view = self.view(file)?;
         Ok(())
     }
 
-    fn absorb_view(&mut self, _view: NoView) {}
+    fn absorb_view(&mut self, _view: Shown) {}
 
     fn absorb_fresh(&mut self, _fresh: NoFresh) {}
 

@@ -3,20 +3,21 @@ ghost use Rattle.block_host.specs.Disk.{risen};
 ghost use Rattle.block_host.specs.Sealed.{IsSealed};
 ghost use Rattle.header_block.specs.Layout.{header_bytes};
 ghost use Rattle.meta_slots.specs.Slots.{slot_bytes};
-ghost use Rattle.play_run.specs.Ledger.{seen};
 ghost use Rattle.file_image.specs.NewStore.{IsNewStore, new_header};
-ghost use Rattle.play_run.specs.Progress.{IsStart};
 ghost use Rattle.block_host.specs.Calls.{block_at};
 
-use crate::ledger::{FILE, header_block};
 use block_host::{Block, Failed, Host, seal};
 use forest_model::{Header, Stores};
+use header_block::payload_of;
+
+/// The revision of a new store's file, and its number.
+const FILE: u64 = 1;
 
 /// Whether the host holds a new store: the meta file with its first slot, and file 1 with the header of commit 0.
 pub(crate) fn is_new_store<H: Host>(host: &mut H) -> Result<bool, Failed>
     ensures is { IsTrue H.tells → IfOk result (λ is. IsTrue is ↔ IsNewStore (H.disk host.old).files) }
-    ensures start { IfOk result (λ is. IsTrue is → IsStart H.tells (seen (H.disk host.new))) }
-    ensures seen { IsTrue H.tells → seen (H.disk host.new) ≡ seen (H.disk host.old) }
+    ensures files { IsTrue H.tells → (H.disk host.new).files ≡ (H.disk host.old).files }
+    ensures silent { IsTrue H.tells → (H.disk host.new).said ≡ (H.disk host.old).said }
     ensures failed { OnErr result (risen (H.faults host.old) ≤ H.faults host.new) }
     ensures untroubled { OnOk result (H.faults host.new ≡ H.faults host.old) }
 {
@@ -65,7 +66,8 @@ pub(crate) fn first_slot() -> Block
 pub(crate) fn first_header() -> Block
     ensures { IsSealed 1 0 4 (header_bytes new_header) result }
 {
-    header_block(&new_header(), 0)
+    let page = payload_of(&new_header());
+    seal(4, FILE, 0, &page.bytes[..page.len as usize])
 }
 
 // Commit 0: one store, `default`, and no documents.

@@ -2,12 +2,15 @@ ghost use Rattle.std.specs.Prelude.{◌≡◌, ◌≢◌, ◌+◌, ◌-◌, ◌^
 ghost use Rattle.block_host.specs.Disk.{risen};
 ghost use Rattle.script_text.specs.Replies.{CanBeSaid};
 ghost use Rattle.play_run.specs.Script.{IsText, IsBad, reply_line};
-ghost use Rattle.play_run.specs.Ledger.{Seen, seen, new_place};
-ghost use Rattle.play_run.specs.Progress.{HasRun, HasTaken, Stops, StopsText, IsStop, FaultsAfter, IsCounted, RunsText, Feeds, EndsBy, IsStart};
+ghost use Rattle.forest_model.specs.Blocks.{File};
+ghost use Rattle.forest_model.specs.State.{new_state, usual_limits};
+ghost use Rattle.play_run.specs.Seen.{Seen, seen};
+ghost use Rattle.play_run.specs.Playing.{IsSomewhere, StandsFor, opened, position};
+ghost use Rattle.play_run.specs.Progress.{HasRun, HasTaken, Stops, StopsText, IsStop, IsSound, FaultsAfter, RunsText, Feeds, EndsBy};
 
-use crate::ledger::Ledger;
-use crate::plain_file::PlainFile;
+use crate::session::Session;
 use block_host::{Failed, Host, Source};
+use file_core::FileState;
 use forest_model::Told;
 use script_text::{line_of, one_spelling, reply_text};
 use std::alloc::Global;
@@ -31,27 +34,33 @@ pub(crate) enum Ended {
     NoMemory,
     /// The host failed.
     HostFault,
+    /// A block that was read is no record block as it should be.
+    Damaged { file: u64, block: u64 },
 }
 
-/// A script that is run while it is read: the store with its file, and the line that isn't whole yet.
+/// A script that is run while it is read: the lanes over the open file, and the line that isn't whole yet.
 pub(crate) struct Player<H: Host> {
     alloc: Global,
-    pub(crate) file: PlainFile<H>,
+    pub(crate) session: Session<H>,
     open_line: Vec<u8>,
     /// How many lines were run.
     pub(crate) count: u64,
 }
 
 /// Runs the line of a text, and gives what is told for it.
-fn told_for<H: Host>(alloc: Global, file: &mut PlainFile<H>, text: &[u8]) -> Result<Told, Ended>
-    requires counted { (count : ℕ) × (count < 2 ^ 27) × IsCounted file.old.store file.old.ledger count }
-    ensures runs { IfOk result (RunsText H.tells text.now file.old.store file.new.store file.old.ledger file.new.ledger (seen (H.disk file.old.host)) (seen (H.disk file.new.host))) }
+fn told_for<H: Host>(alloc: Global, session: &mut Session<H>, text: &[u8]) -> Result<Told, Ended>
+    requires somewhere { IsSomewhere H.tells (position (H.disk session.old.file.parts.host) (H.View.content session.old.file.parts.view) session.old.file.parts session.old.lanes) }
+    ensures runs { IfOk result (RunsText H.tells text.now
+        (position (H.disk session.old.file.parts.host) (H.View.content session.old.file.parts.view) session.old.file.parts session.old.lanes)
+        (position (H.disk session.new.file.parts.host) (H.View.content session.new.file.parts.view) session.new.file.parts session.new.lanes)
+        (seen (H.disk session.old.file.parts.host)) (seen (H.disk session.new.file.parts.host))) }
     ensures spelled { IfOk result (λ t. CanBeSaid t.said) }
-    ensures bad { result ≡ Err Ended.BadLine → IsBad text.now × (IsTrue H.tells → seen (H.disk file.new.host) ≡ seen (H.disk file.old.host)) }
-    ensures stop { IfErr result IsStop }
-    ensures silent { IsTrue H.tells → (H.disk file.new.host).said ≡ (H.disk file.old.host).said }
-    ensures untroubled { OnOk result (H.faults file.new.host ≡ H.faults file.old.host) }
-    ensures faults { IfErr result (λ why. FaultsAfter why (H.faults file.old.host) (H.faults file.new.host)) }
+    ensures bad { result ≡ Err Ended.BadLine → IsBad text.now × (IsTrue H.tells → seen (H.disk session.new.file.parts.host) ≡ seen (H.disk session.old.file.parts.host)) }
+    ensures stop { IfErr result (IsStop H.tells) }
+    ensures silent { IsTrue H.tells → (H.disk session.new.file.parts.host).said ≡ (H.disk session.old.file.parts.host).said }
+    ensures untroubled { OnOk result ((H.faults session.new.file.parts.host ≡ H.faults session.old.file.parts.host) × (H.View.faults session.new.file.parts.view ≡ H.View.faults session.old.file.parts.view)) }
+    ensures faults { IfErr result (λ why. FaultsAfter why (record { host = H.faults session.old.file.parts.host; view = H.View.faults session.old.file.parts.view })
+        (record { host = H.faults session.new.file.parts.host; view = H.View.faults session.new.file.parts.view })) }
 {
     let line = match line_of(alloc, text, false) {
         Ok(Some(line)) => line,
@@ -59,7 +68,7 @@ fn told_for<H: Host>(alloc: Global, file: &mut PlainFile<H>, text: &[u8]) -> Res
         Err(_) => return Err(Ended::NoMemory),
     };
     one_spelling();
-    match file.tell(line) {
+    match session.tell(&line) {
         Ok(Some(told)) => Ok(told),
         Ok(None) => Err(Ended::BadLine),
         Err(why) => Err(why),
@@ -81,53 +90,59 @@ fn spelled(alloc: Global, told: &Told) -> Result<Vec<u8>, Ended>
 }
 
 impl<H: Host> Player<H> {
-    /// A player of a new store, before the first line.
-    pub(crate) fn new(alloc: Global, host: H, ledger: Ledger) -> Player<H>
-        requires { ledger ≡ new_place }
-        ensures host { result.file.host ≡ host }
+    /// A player of an open file, before the first line.
+    pub(crate) fn new(alloc: Global, file: FileState<H>) -> Player<H>
+        ensures file { result.session.file ≡ file }
         ensures none { result.count ≡ 0 }
-        ensures counted { IsCounted result.file.store result.file.ledger result.count }
-        ensures taken { (base : Seen) → IsStart H.tells base → HasTaken H.tells base base [] result.file.store result.file.ledger result.open_line.items result.count }
+        ensures somewhere { (f : File) → StandsFor H.tells (opened (H.disk file.parts.host) (H.View.content file.parts.view) file.parts) (new_state usual_limits) f
+            → IsSomewhere H.tells (position (H.disk file.parts.host) (H.View.content file.parts.view) file.parts result.session.lanes) }
+        ensures taken { (base : Seen) (f : File) → StandsFor H.tells (opened (H.disk file.parts.host) (H.View.content file.parts.view) file.parts) (new_state usual_limits) f
+            → (IsTrue H.tells → f ≡ base.file)
+            → HasTaken H.tells base base [] (position (H.disk file.parts.host) (H.View.content file.parts.view) file.parts result.session.lanes) result.open_line.items result.count }
     {
         Player {
             alloc,
-            file: PlainFile::new(alloc, host, ledger),
+            session: Session::new(file),
             open_line: Vec::new(alloc),
             count: 0,
         }
     }
 
-    /// The host, and how many lines were run.
-    pub(crate) fn close(self) -> (H, u64)
-        ensures host { result.0 ≡ self.file.host }
+    /// The open file, and how many lines were run.
+    pub(crate) fn close(self) -> (FileState<H>, u64)
+        ensures file { result.0 ≡ self.session.file }
         ensures count { result.1 ≡ self.count }
     {
         let Player {
             alloc: _alloc,
-            file,
+            session,
             open_line: _open_line,
             count,
         } = self;
-        (file.close(), count)
+        let Session {
+            file,
+            lanes: _lanes,
+        } = session;
+        (file, count)
     }
 
     /// Runs the open line, which is whole, and says its reply.
     fn answer(&mut self) -> Result<(), Ended>
-        requires counted { IsCounted self.old.file.store self.old.file.ledger self.old.count }
+        requires somewhere { IsSomewhere H.tells (position (H.disk self.old.session.file.parts.host) (H.View.content self.old.session.file.parts.view) self.old.session.file.parts self.old.session.lanes) }
         requires small { self.old.count < 2 ^ 27 }
         ensures run { OnOk result ((base : Seen) (texts : List (List ℕ)) → IsText self.old.open_line.items
-            → HasRun H.tells base (seen (H.disk self.old.file.host)) texts self.old.file.store self.old.file.ledger self.old.count
-            → HasRun H.tells base (seen (H.disk self.new.file.host)) (texts ++ self.old.open_line.items ∷ []) self.new.file.store self.new.file.ledger self.new.count) }
+            → HasRun H.tells base (seen (H.disk self.old.session.file.parts.host)) texts (position (H.disk self.old.session.file.parts.host) (H.View.content self.old.session.file.parts.view) self.old.session.file.parts self.old.session.lanes) self.old.count
+            → HasRun H.tells base (seen (H.disk self.new.session.file.parts.host)) (texts ++ self.old.open_line.items ∷ []) (position (H.disk self.new.session.file.parts.host) (H.View.content self.new.session.file.parts.view) self.new.session.file.parts self.new.session.lanes) self.new.count) }
         ensures open_line { OnOk result (self.new.open_line.items ≡ []) }
         ensures count { OnOk result (self.new.count ≡ self.old.count + 1) }
-        ensures counted { OnOk result (IsCounted self.new.file.store self.new.file.ledger self.new.count) }
+        ensures somewhere { OnOk result (IsSomewhere H.tells (position (H.disk self.new.session.file.parts.host) (H.View.content self.new.session.file.parts.view) self.new.session.file.parts self.new.session.lanes)) }
         ensures same_count { OnErr result (self.new.count ≡ self.old.count) }
-        ensures stops { IfErr result (λ why. StopsText why H.tells self.old.open_line.items self.old.file.store self.old.file.ledger self.old.count (seen (H.disk self.old.file.host)) (seen (H.disk self.new.file.host))) }
-        ensures stop { IfErr result IsStop }
-        ensures untroubled { OnOk result (H.faults self.new.file.host ≡ H.faults self.old.file.host) }
-        ensures faults { IfErr result (λ why. FaultsAfter why (H.faults self.old.file.host) (H.faults self.new.file.host)) }
+        ensures stops { IfErr result (λ why. StopsText why H.tells self.old.open_line.items (position (H.disk self.old.session.file.parts.host) (H.View.content self.old.session.file.parts.view) self.old.session.file.parts self.old.session.lanes) self.old.count (seen (H.disk self.old.session.file.parts.host)) (seen (H.disk self.new.session.file.parts.host))) }
+        ensures stop { IfErr result (IsStop H.tells) }
+        ensures untroubled { OnOk result ((H.faults self.new.session.file.parts.host ≡ H.faults self.old.session.file.parts.host) × (H.View.faults self.new.session.file.parts.view ≡ H.View.faults self.old.session.file.parts.view)) }
+        ensures faults { IfErr result (λ why. FaultsAfter why (record { host = H.faults self.old.session.file.parts.host; view = H.View.faults self.old.session.file.parts.view }) (record { host = H.faults self.new.session.file.parts.host; view = H.View.faults self.new.session.file.parts.view })) }
     {
-        let told = match told_for(self.alloc, &mut self.file, self.open_line.as_slice()) {
+        let told = match told_for(self.alloc, &mut self.session, self.open_line.as_slice()) {
             Ok(told) => told,
             Err(why) => return Err(why),
         };
@@ -135,7 +150,7 @@ impl<H: Host> Player<H> {
             Ok(text) => text,
             Err(_) => return Err(Ended::NoMemory),
         };
-        match self.file.host.say(text.as_slice()) {
+        match self.session.file.parts.host.say(text.as_slice()) {
             Ok(()) => {
                 self.open_line.clear();
                 self.count += 1;
@@ -147,19 +162,19 @@ impl<H: Host> Player<H> {
 
     /// Takes the next byte of the script.
     fn take_byte(&mut self, byte: u8) -> Result<(), Ended>
-        requires counted { IsCounted self.old.file.store self.old.file.ledger self.old.count }
+        requires somewhere { IsSomewhere H.tells (position (H.disk self.old.session.file.parts.host) (H.View.content self.old.session.file.parts.view) self.old.session.file.parts self.old.session.lanes) }
         requires small { self.old.count < 2 ^ 27 }
         ensures taken { OnOk result ((base : Seen) (taken : List ℕ)
-            → HasTaken H.tells base (seen (H.disk self.old.file.host)) taken self.old.file.store self.old.file.ledger self.old.open_line.items self.old.count
-            → HasTaken H.tells base (seen (H.disk self.new.file.host)) (taken ++ byte ∷ []) self.new.file.store self.new.file.ledger self.new.open_line.items self.new.count) }
+            → HasTaken H.tells base (seen (H.disk self.old.session.file.parts.host)) taken (position (H.disk self.old.session.file.parts.host) (H.View.content self.old.session.file.parts.view) self.old.session.file.parts self.old.session.lanes) self.old.open_line.items self.old.count
+            → HasTaken H.tells base (seen (H.disk self.new.session.file.parts.host)) (taken ++ byte ∷ []) (position (H.disk self.new.session.file.parts.host) (H.View.content self.new.session.file.parts.view) self.new.session.file.parts self.new.session.lanes) self.new.open_line.items self.new.count) }
         ensures count { self.new.count ≤ self.old.count + 1 }
-        ensures counted { OnOk result (IsCounted self.new.file.store self.new.file.ledger self.new.count) }
+        ensures somewhere { OnOk result (IsSomewhere H.tells (position (H.disk self.new.session.file.parts.host) (H.View.content self.new.session.file.parts.view) self.new.session.file.parts self.new.session.lanes)) }
         ensures stops { IfErr result (λ why. (base : Seen) (taken : List ℕ)
-            → HasTaken H.tells base (seen (H.disk self.old.file.host)) taken self.old.file.store self.old.file.ledger self.old.open_line.items self.old.count
-            → Stops why H.tells base (seen (H.disk self.new.file.host)) (taken ++ byte ∷ []) self.new.count) }
-        ensures stop { IfErr result IsStop }
-        ensures untroubled { OnOk result (H.faults self.new.file.host ≡ H.faults self.old.file.host) }
-        ensures faults { IfErr result (λ why. FaultsAfter why (H.faults self.old.file.host) (H.faults self.new.file.host)) }
+            → HasTaken H.tells base (seen (H.disk self.old.session.file.parts.host)) taken (position (H.disk self.old.session.file.parts.host) (H.View.content self.old.session.file.parts.view) self.old.session.file.parts self.old.session.lanes) self.old.open_line.items self.old.count
+            → Stops why H.tells base (seen (H.disk self.new.session.file.parts.host)) (taken ++ byte ∷ []) self.new.count) }
+        ensures stop { IfErr result (IsStop H.tells) }
+        ensures untroubled { OnOk result ((H.faults self.new.session.file.parts.host ≡ H.faults self.old.session.file.parts.host) × (H.View.faults self.new.session.file.parts.view ≡ H.View.faults self.old.session.file.parts.view)) }
+        ensures faults { IfErr result (λ why. FaultsAfter why (record { host = H.faults self.old.session.file.parts.host; view = H.View.faults self.old.session.file.parts.view }) (record { host = H.faults self.new.session.file.parts.host; view = H.View.faults self.new.session.file.parts.view })) }
     {
         if byte == b'\n' {
             return match self.answer() {
@@ -175,19 +190,19 @@ impl<H: Host> Player<H> {
 
     /// Takes the next bytes of the script.
     fn take_bytes(&mut self, bytes: &[u8]) -> Result<(), Ended>
-        requires counted { IsCounted self.old.file.store self.old.file.ledger self.old.count }
+        requires somewhere { IsSomewhere H.tells (position (H.disk self.old.session.file.parts.host) (H.View.content self.old.session.file.parts.view) self.old.session.file.parts self.old.session.lanes) }
         requires small { self.old.count + length bytes.now < 2 ^ 27 }
         ensures taken { OnOk result ((base : Seen) (taken : List ℕ)
-            → HasTaken H.tells base (seen (H.disk self.old.file.host)) taken self.old.file.store self.old.file.ledger self.old.open_line.items self.old.count
-            → HasTaken H.tells base (seen (H.disk self.new.file.host)) (taken ++ bytes.now) self.new.file.store self.new.file.ledger self.new.open_line.items self.new.count) }
+            → HasTaken H.tells base (seen (H.disk self.old.session.file.parts.host)) taken (position (H.disk self.old.session.file.parts.host) (H.View.content self.old.session.file.parts.view) self.old.session.file.parts self.old.session.lanes) self.old.open_line.items self.old.count
+            → HasTaken H.tells base (seen (H.disk self.new.session.file.parts.host)) (taken ++ bytes.now) (position (H.disk self.new.session.file.parts.host) (H.View.content self.new.session.file.parts.view) self.new.session.file.parts self.new.session.lanes) self.new.open_line.items self.new.count) }
         ensures count { self.new.count ≤ self.old.count + length bytes.now }
-        ensures counted { OnOk result (IsCounted self.new.file.store self.new.file.ledger self.new.count) }
+        ensures somewhere { OnOk result (IsSomewhere H.tells (position (H.disk self.new.session.file.parts.host) (H.View.content self.new.session.file.parts.view) self.new.session.file.parts self.new.session.lanes)) }
         ensures stops { IfErr result (λ why. (base : Seen) (taken : List ℕ)
-            → HasTaken H.tells base (seen (H.disk self.old.file.host)) taken self.old.file.store self.old.file.ledger self.old.open_line.items self.old.count
-            → Stops why H.tells base (seen (H.disk self.new.file.host)) (taken ++ bytes.now) self.new.count) }
-        ensures stop { IfErr result IsStop }
-        ensures untroubled { OnOk result (H.faults self.new.file.host ≡ H.faults self.old.file.host) }
-        ensures faults { IfErr result (λ why. FaultsAfter why (H.faults self.old.file.host) (H.faults self.new.file.host)) }
+            → HasTaken H.tells base (seen (H.disk self.old.session.file.parts.host)) taken (position (H.disk self.old.session.file.parts.host) (H.View.content self.old.session.file.parts.view) self.old.session.file.parts self.old.session.lanes) self.old.open_line.items self.old.count
+            → Stops why H.tells base (seen (H.disk self.new.session.file.parts.host)) (taken ++ bytes.now) self.new.count) }
+        ensures stop { IfErr result (IsStop H.tells) }
+        ensures untroubled { OnOk result ((H.faults self.new.session.file.parts.host ≡ H.faults self.old.session.file.parts.host) × (H.View.faults self.new.session.file.parts.view ≡ H.View.faults self.old.session.file.parts.view)) }
+        ensures faults { IfErr result (λ why. FaultsAfter why (record { host = H.faults self.old.session.file.parts.host; view = H.View.faults self.old.session.file.parts.view }) (record { host = H.faults self.new.session.file.parts.host; view = H.View.faults self.new.session.file.parts.view })) }
     {
         for byte in bytes {
             if let Err(why) = self.take_byte(*byte) {
@@ -199,14 +214,15 @@ impl<H: Host> Player<H> {
 
     /// Runs the last line of an input, which may lack its newline.
     fn end(&mut self) -> Ended
-        requires counted { IsCounted self.old.file.store self.old.file.ledger self.old.count }
+        requires somewhere { IsSomewhere H.tells (position (H.disk self.old.session.file.parts.host) (H.View.content self.old.session.file.parts.view) self.old.session.file.parts self.old.session.lanes) }
         requires small { self.old.count < 2 ^ 27 }
         ensures ends { (base : Seen) (taken : List ℕ) → length taken ≤ SCRIPT_LIMIT
-            → HasTaken H.tells base (seen (H.disk self.old.file.host)) taken self.old.file.store self.old.file.ledger self.old.open_line.items self.old.count
-            → EndsBy result H.tells base (seen (H.disk self.new.file.host)) taken [] self.new.count }
+            → HasTaken H.tells base (seen (H.disk self.old.session.file.parts.host)) taken (position (H.disk self.old.session.file.parts.host) (H.View.content self.old.session.file.parts.view) self.old.session.file.parts self.old.session.lanes) self.old.open_line.items self.old.count
+            → EndsBy result H.tells base (seen (H.disk self.new.session.file.parts.host)) taken [] self.new.count }
         ensures read { result ≢ Ended.SourceFault }
+        ensures sound { IsSound H.tells result }
         ensures count { self.new.count ≤ self.old.count + 1 }
-        ensures faults { FaultsAfter result (H.faults self.old.file.host) (H.faults self.new.file.host) }
+        ensures faults { FaultsAfter result (record { host = H.faults self.old.session.file.parts.host; view = H.View.faults self.old.session.file.parts.view }) (record { host = H.faults self.new.session.file.parts.host; view = H.View.faults self.new.session.file.parts.view }) }
     {
         if self.open_line.as_slice().is_empty() {
             return Ended::AtEnd;
@@ -225,24 +241,25 @@ impl<H: Host> Player<H> {
         room: &mut [u8],
         left: usize,
     ) -> Result<usize, Ended>
-        requires counted { IsCounted self.old.file.store self.old.file.ledger self.old.count }
+        requires somewhere { IsSomewhere H.tells (position (H.disk self.old.session.file.parts.host) (H.View.content self.old.session.file.parts.view) self.old.session.file.parts self.old.session.lanes) }
         requires small { self.old.count + left ≤ SCRIPT_LIMIT + 1 }
         requires some { 0 < length room.old }
         requires within { length room.old ≤ left }
         ensures fed { IfOk result (λ n. (1 ≤ n) × (n < left) × (self.new.count ≤ self.old.count + n)) }
         ensures few { self.new.count ≤ SCRIPT_LIMIT + 1 }
-        ensures counted { OnOk result (IsCounted self.new.file.store self.new.file.ledger self.new.count) }
+        ensures somewhere { OnOk result (IsSomewhere H.tells (position (H.disk self.new.session.file.parts.host) (H.View.content self.new.session.file.parts.view) self.new.session.file.parts self.new.session.lanes)) }
         ensures taken { IfOk result (λ n. IsTrue S.tells → (base : Seen) (taken script : List ℕ) → script ≡ taken ++ S.rest source.old
-            → HasTaken H.tells base (seen (H.disk self.old.file.host)) taken self.old.file.store self.old.file.ledger self.old.open_line.items self.old.count
-            → Feeds H.tells base (seen (H.disk self.new.file.host)) taken script (S.rest source.new) self.new.file.store self.new.file.ledger self.new.open_line.items self.new.count n) }
+            → HasTaken H.tells base (seen (H.disk self.old.session.file.parts.host)) taken (position (H.disk self.old.session.file.parts.host) (H.View.content self.old.session.file.parts.view) self.old.session.file.parts self.old.session.lanes) self.old.open_line.items self.old.count
+            → Feeds H.tells base (seen (H.disk self.new.session.file.parts.host)) taken script (S.rest source.new) (position (H.disk self.new.session.file.parts.host) (H.View.content self.new.session.file.parts.view) self.new.session.file.parts self.new.session.lanes) self.new.open_line.items self.new.count n) }
         ensures ends { IfErr result (λ why. IsTrue S.tells → (base : Seen) (taken script : List ℕ) → script ≡ taken ++ S.rest source.old
             → length taken + left ≡ SCRIPT_LIMIT + 1
-            → HasTaken H.tells base (seen (H.disk self.old.file.host)) taken self.old.file.store self.old.file.ledger self.old.open_line.items self.old.count
-            → EndsBy why H.tells base (seen (H.disk self.new.file.host)) script (S.rest source.new) self.new.count) }
+            → HasTaken H.tells base (seen (H.disk self.old.session.file.parts.host)) taken (position (H.disk self.old.session.file.parts.host) (H.View.content self.old.session.file.parts.view) self.old.session.file.parts self.old.session.lanes) self.old.open_line.items self.old.count
+            → EndsBy why H.tells base (seen (H.disk self.new.session.file.parts.host)) script (S.rest source.new) self.new.count) }
+        ensures sound { IfErr result (IsSound H.tells) }
         ensures source { result ≡ Err Ended.SourceFault → risen (S.faults source.old) ≤ S.faults source.new }
         ensures counts { S.faults source.old ≤ S.faults source.new }
-        ensures untroubled { OnOk result (H.faults self.new.file.host ≡ H.faults self.old.file.host) }
-        ensures faults { IfErr result (λ why. FaultsAfter why (H.faults self.old.file.host) (H.faults self.new.file.host)) }
+        ensures untroubled { OnOk result ((H.faults self.new.session.file.parts.host ≡ H.faults self.old.session.file.parts.host) × (H.View.faults self.new.session.file.parts.view ≡ H.View.faults self.old.session.file.parts.view)) }
+        ensures faults { IfErr result (λ why. FaultsAfter why (record { host = H.faults self.old.session.file.parts.host; view = H.View.faults self.old.session.file.parts.view }) (record { host = H.faults self.new.session.file.parts.host; view = H.View.faults self.new.session.file.parts.view })) }
     {
         let n = match source.read(room) {
             Ok(n) => n,
@@ -260,13 +277,14 @@ impl<H: Host> Player<H> {
 
     /// Runs the script of a source, to its end or to what ends it before.
     pub(crate) fn run<S: Source>(&mut self, source: &mut S) -> Ended
-        requires counted { IsCounted self.old.file.store self.old.file.ledger self.old.count }
+        requires somewhere { IsSomewhere H.tells (position (H.disk self.old.session.file.parts.host) (H.View.content self.old.session.file.parts.view) self.old.session.file.parts self.old.session.lanes) }
         requires none { self.old.count ≡ 0 }
         ensures ends { IsTrue S.tells → (base : Seen)
-            → HasTaken H.tells base (seen (H.disk self.old.file.host)) [] self.old.file.store self.old.file.ledger self.old.open_line.items self.old.count
-            → EndsBy result H.tells base (seen (H.disk self.new.file.host)) (S.rest source.old) (S.rest source.new) self.new.count }
+            → HasTaken H.tells base (seen (H.disk self.old.session.file.parts.host)) [] (position (H.disk self.old.session.file.parts.host) (H.View.content self.old.session.file.parts.view) self.old.session.file.parts self.old.session.lanes) self.old.open_line.items self.old.count
+            → EndsBy result H.tells base (seen (H.disk self.new.session.file.parts.host)) (S.rest source.old) (S.rest source.new) self.new.count }
+        ensures sound { IsSound H.tells result }
         ensures source { result ≡ Ended.SourceFault → risen (S.faults source.old) ≤ S.faults source.new }
-        ensures faults { FaultsAfter result (H.faults self.old.file.host) (H.faults self.new.file.host) }
+        ensures faults { FaultsAfter result (record { host = H.faults self.old.session.file.parts.host; view = H.View.faults self.old.session.file.parts.view }) (record { host = H.faults self.new.session.file.parts.host; view = H.View.faults self.new.session.file.parts.view }) }
         ensures few { self.new.count ≤ SCRIPT_LIMIT + 1 }
     {
         let mut room = [0; ROOM];

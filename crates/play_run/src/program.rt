@@ -3,22 +3,30 @@ ghost use Rattle.std.specs.Prelude.{nat_eq};
 ghost use Rattle.std.specs.Cmp.Lexicographic.{pointwise};
 ghost use Rattle.std.specs.String.{string_bytes};
 ghost use Rattle.block_host.specs.Disk.{risen};
-ghost use Rattle.play_run.specs.Ledger.{seen};
+ghost use Rattle.forest_model.specs.declared.refusal.Refusal.TheVariants.{NoMemory, DiskFault};
+ghost use Rattle.play_run.specs.Seen.{seen};
 ghost use Rattle.file_image.specs.NewStore.{IsNewStore};
-ghost use Rattle.play_run.specs.Progress.{EndsWith, SaysEnd, IsStart};
+ghost use Rattle.play_run.specs.Progress.{EndsWith, SaysEnd};
 ghost use Rattle.play_run.specs.Script.{AreWords, RunsAll, RunsPrefix, MeetsBad, HoldsBad, EndsBad, IsGood, bad_line};
-ghost use Rattle.play_run.specs.Play.{Leaves, Says, SaysPart, MaySay, PartSaid, SaidThen, Takes, Rests, RunsAndSays, words_refused, source_fault, no_store};
+ghost use Rattle.play_run.specs.Play.{Leaves, Says, SaysPart, MaySay, PartSaid, SaidThen, Takes, Rests, RunsAndSays, words_refused, source_fault, no_store, damaged};
 
-use crate::ledger::Ledger;
 use crate::opening::is_new_store;
 use crate::player::{Ended, Player};
 use block_host::{Failed, Host, Source};
+use file_open::open_new;
+use forest_model::{Limits, Refusal};
 use std::alloc::{AllocError, Global};
+
+/// The limits without other words: files of up to 2^32 blocks, and a flush from 4,096 entries on.
+const USUAL: Limits = Limits {
+    max_blocks: 1 << 32,
+    threshold: 4096,
+};
 
 /// How a program ended, and its host.
 #[derive(Debug, Drop)]
 pub struct Played<H> {
-    /// The exit status, 0 to 5 or 7.
+    /// The exit status, 0 to 7.
     pub status: u8,
     pub host: H,
 }
@@ -49,6 +57,18 @@ fn bad_line_text(alloc: Global, number: u64) -> Result<String, AllocError>
     let mut text = String::from_str(alloc, "line ")?;
     write!(text, "{number}")?;
     text.push_str(": bad line")?;
+    text.push_str("\n")?;
+    Ok(text)
+}
+
+/// The text for a block that isn't as it should be.
+fn damaged_text(alloc: Global, file: u64, block: u64) -> Result<String, AllocError>
+    ensures { IfOk result (λ text. string_bytes text ≡ damaged file block) }
+{
+    let mut text = String::from_str(alloc, "damaged ")?;
+    write!(text, "{file}")?;
+    text.push_str(" ")?;
+    write!(text, "{block}")?;
     text.push_str("\n")?;
     Ok(text)
 }
@@ -86,14 +106,29 @@ fn finish<H: Host>(alloc: Global, host: H, ended: Ended, count: u64) -> Played<H
             Ok(text) => end_with(host, text.as_bytes(), 3),
             Err(_) => Played { status: 5, host },
         },
+        Ended::Damaged { file, block } => match damaged_text(alloc, file, block) {
+            Ok(text) => end_with(host, text.as_bytes(), 6),
+            Err(_) => Played { status: 5, host },
+        },
         Ended::NoMemory => Played { status: 5, host },
         Ended::HostFault => Played { status: 4, host },
     }
 }
 
+/// The status of a store that couldn't be opened.
+fn status_of(why: &Refusal) -> u8
+    ensures memory { why.now ≡ NoMemory → result ≡ 5 }
+    ensures fault { why.now ≡ DiskFault → result ≡ 4 }
+{
+    match why {
+        Refusal::NoMemory => 5,
+        _ => 4,
+    }
+}
+
 /// Runs the script of a source over the new store that the host holds.
 fn run_script<S: Source, H: Host>(alloc: Global, source: &mut S, host: H) -> Played<H>
-    requires { IsStart H.tells (seen (H.disk host)) }
+    requires { IsTrue H.tells → IsNewStore (H.disk host).files }
     ensures all { result.status ≡ 0 → IsTrue S.tells → (S.rest source.new ≡ [])
         × Leaves H.tells (seen (H.disk host)) (seen (H.disk result.host)) (λ first last. RunsAll first last (S.rest source.old)) }
     ensures source { result.status ≡ 2 → risen (S.faults source.old) ≤ S.faults source.new }
@@ -101,26 +136,32 @@ fn run_script<S: Source, H: Host>(alloc: Global, source: &mut S, host: H) -> Pla
         → Takes (S.rest source.old) (S.rest source.new) (λ taken. Leaves H.tells (seen (H.disk host)) (seen (H.disk result.host)) (RunsAndSays source_fault taken)) }
     ensures bad { result.status ≡ 3 → IsTrue S.tells
         → Takes (S.rest source.old) (S.rest source.new) (λ taken. Leaves H.tells (seen (H.disk host)) (seen (H.disk result.host)) (λ first last. MeetsBad first last taken (S.rest source.new))) }
-    ensures bad_line { IsTrue S.tells → Takes (S.rest source.old) (S.rest source.new) HoldsBad → (result.status ≡ 3) ⊎ ((result.status ≡ 4) ⊎ (result.status ≡ 5)) }
-    ensures bad_end { IsTrue S.tells → Takes (S.rest source.old) (S.rest source.new) (λ taken. EndsBad taken (S.rest source.new)) → (result.status ≡ 2) ⊎ ((result.status ≡ 3) ⊎ ((result.status ≡ 4) ⊎ (result.status ≡ 5))) }
+    ensures bad_line { IsTrue S.tells → Takes (S.rest source.old) (S.rest source.new) HoldsBad → (result.status ≡ 3) ⊎ ((result.status ≡ 4) ⊎ ((result.status ≡ 5) ⊎ (result.status ≡ 6))) }
+    ensures bad_end { IsTrue S.tells → Takes (S.rest source.old) (S.rest source.new) (λ taken. EndsBad taken (S.rest source.new)) → (result.status ≡ 2) ⊎ ((result.status ≡ 3) ⊎ ((result.status ≡ 4) ⊎ ((result.status ≡ 5) ⊎ (result.status ≡ 6)))) }
     ensures host { result.status ≡ 4 → risen (H.faults host) ≤ H.faults result.host }
     ensures untroubled { result.status ≢ 4 → H.faults result.host ≡ H.faults host }
     ensures said_host { result.status ≡ 4 → IsTrue S.tells
         → Takes (S.rest source.old) (S.rest source.new) (λ taken. SaysPart H.tells (seen (H.disk host)) (seen (H.disk result.host)) (MaySay taken (S.rest source.new))) }
     ensures memory { result.status ≡ 5 → IsTrue S.tells
         → Takes (S.rest source.old) (S.rest source.new) (λ taken. Says H.tells (seen (H.disk host)) (seen (H.disk result.host)) (λ first last. RunsPrefix first last taken)) }
-    ensures complete { IsTrue S.tells → IsGood (S.rest source.old) → Rests (S.faults source.old) (S.faults source.new)
+    ensures complete { IsTrue S.tells → IsTrue H.tells → IsGood (S.rest source.old) → Rests (S.faults source.old) (S.faults source.new)
         → Rests (H.faults host) (H.faults result.host) → (result.status ≡ 0) ⊎ (result.status ≡ 5) }
-    ensures statuses { (result.status ≢ 1) × (result.status ≤ 5) }
+    ensures damaged { result.status ≡ 6 → ¬ (IsTrue H.tells) }
+    ensures statuses { (result.status ≢ 1) × (result.status ≤ 6) }
 {
-    let ledger = match Ledger::new(alloc) {
-        Ok(ledger) => ledger,
-        Err(_) => return Played { status: 5, host },
+    let file = match open_new(alloc, host, USUAL) {
+        Ok(file) => file,
+        Err((why, host)) => {
+            return Played {
+                status: status_of(&why),
+                host,
+            };
+        }
     };
-    let mut player = Player::new(alloc, host, ledger);
+    let mut player = Player::new(alloc, file);
     let ended = player.run(source);
-    let (host, count) = player.close();
-    finish(alloc, host, ended, count)
+    let (file, count) = player.close();
+    finish(alloc, file.close(), ended, count)
 }
 
 /// Runs the script of a source over the new store that the host holds, line by line, writes its file, and says one reply
@@ -153,8 +194,8 @@ pub fn play<S: Source, H: Host>(
     // Status 3: all lines before the first bad one were run. It comes where there is one, the other causes aside.
     ensures bad { result.status ≡ 3 → IsTrue S.tells
         → Takes (S.rest source.old) (S.rest source.new) (λ taken. Leaves H.tells (seen (H.disk host)) (seen (H.disk result.host)) (λ first last. MeetsBad first last taken (S.rest source.new))) }
-    ensures bad_line { IsTrue S.tells → Takes (S.rest source.old) (S.rest source.new) HoldsBad → (result.status ≡ 3) ⊎ ((result.status ≡ 4) ⊎ (result.status ≡ 5)) }
-    ensures bad_end { IsTrue S.tells → Takes (S.rest source.old) (S.rest source.new) (λ taken. EndsBad taken (S.rest source.new)) → (result.status ≡ 2) ⊎ ((result.status ≡ 3) ⊎ ((result.status ≡ 4) ⊎ (result.status ≡ 5))) }
+    ensures bad_line { IsTrue S.tells → Takes (S.rest source.old) (S.rest source.new) HoldsBad → (result.status ≡ 3) ⊎ ((result.status ≡ 4) ⊎ ((result.status ≡ 5) ⊎ (result.status ≡ 6))) }
+    ensures bad_end { IsTrue S.tells → Takes (S.rest source.old) (S.rest source.new) (λ taken. EndsBad taken (S.rest source.new)) → (result.status ≡ 2) ⊎ ((result.status ≡ 3) ⊎ ((result.status ≡ 4) ⊎ ((result.status ≡ 5) ⊎ (result.status ≡ 6)))) }
 
     // Status 4 comes exactly where the host's count rose. A first part of what is right was said.
     ensures host { result.status ≡ 4 → risen (H.faults host) ≤ H.faults result.host }
@@ -168,10 +209,14 @@ pub fn play<S: Source, H: Host>(
     ensures memory { result.status ≡ 5 → IsTrue S.tells
         → Takes (S.rest source.old) (S.rest source.new) (λ taken. Says H.tells (seen (H.disk host)) (seen (H.disk result.host)) (λ first last. RunsPrefix first last taken)) }
 
+    // Status 6: a block that was read is no record block as it should be. A host that tells its content has none, for the
+    // file of its new store stands.
+    ensures damaged { result.status ≡ 6 → ¬ (IsTrue H.tells) }
+
     // Where nothing fails and the script is right, all of it is run.
     ensures complete { AreWords (map string_bytes words.now) → IsTrue S.tells → IsTrue H.tells → IsNewStore (H.disk host).files → IsGood (S.rest source.old)
         → Rests (S.faults source.old) (S.faults source.new) → Rests (H.faults host) (H.faults result.host) → (result.status ≡ 0) ⊎ (result.status ≡ 5) }
-    ensures statuses { (result.status ≤ 5) ⊎ (result.status ≡ 7) }
+    ensures statuses { result.status ≤ 7 }
 {
     if !are_words(words) {
         return end_with(host, b"words refused\n", 1);

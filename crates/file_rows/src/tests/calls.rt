@@ -1,9 +1,9 @@
-ghost use Rattle.std.specs.Prelude.{◌^◌, ◌≤◌};
+ghost use Rattle.std.specs.Prelude.{◌^◌, ◌≤◌, length};
 
 use block_host::Host;
 use file_core::{FileState, Layout};
 use file_open::open_new;
-use forest_model::{Found, Info, Limits, Refusal, StoreRef};
+use forest_model::{Found, Info, Item, Limits, Refusal, StoreRef};
 use std::alloc::Global;
 
 // The calls of a file over any host, with nothing said of them: a test compares what they answer when it runs.
@@ -62,4 +62,39 @@ pub(super) fn place<H: Host>(file: &FileState<H>) -> (Layout, u64) {
 
 pub(super) fn closed<H: Host>(file: FileState<H>) -> H {
     file.close()
+}
+
+pub(super) fn delete<H: Host>(
+    file: &mut FileState<H>,
+    at: &StoreRef,
+    key: &[u8],
+) -> Result<u64, Refusal> {
+    file.delete(at, key)
+}
+
+pub(super) fn batch<H: Host>(
+    file: &mut FileState<H>,
+    at: &StoreRef,
+    items: &[Item],
+) -> Result<u64, Refusal>
+    requires some { 1 ≤ length items.now }
+    requires few { length items.now ≤ 1024 }
+{
+    file.batch(at, items)
+}
+
+pub(super) fn store_open<H: Host>(
+    file: &mut FileState<H>,
+    name: &[u8],
+    read_only: bool,
+) -> Result<StoreRef, Refusal> {
+    file.store_open(name, read_only)
+}
+
+pub(super) fn store_remove<H: Host>(
+    file: &mut FileState<H>,
+    at: &StoreRef,
+    name: &[u8],
+) -> Result<u64, Refusal> {
+    file.store_remove(at, name)
 }

@@ -1,6 +1,6 @@
 use Rattle.std.proofs.Common.{refl}
 use Rattle.host_memory.specs.Memory.{memory_disk}
-use Rattle.play_run.specs.Ledger.{seen}
+use Rattle.play_run.specs.Seen.{seen}
 use Rattle.play_run.specs.Play.{MaySay}
 use Rattle.forest.proofs.Memory.{takes_part}
 use Rattle.forest.proofs.answers.play_in_memory.Goals as goal

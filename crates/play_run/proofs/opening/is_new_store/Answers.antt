@@ -1,12 +1,8 @@
-use Rattle.std.proofs.Common.{sym, ap, subst, ◌∙◌, ◌≡◌, [], ◌∷◌}
-use Rattle.block_host.specs.Disk.{Image}
-use Rattle.block_host.specs.Sealed.{zero_block}
+use Rattle.std.proofs.Common.{subst, ◌≡◌}
 use Rattle.block_host.specs.Calls.{block_at}
 use Rattle.block_host.specs.declared.block.Block.{Block}
 use Rattle.std.specs.Prelude.{IsTrue, ◌↔◌}
-use Rattle.play_run.specs.Ledger.{bytes_of}
-use Rattle.file_image.specs.NewStore.{IsNewStore}
-use Rattle.play_run.proofs.Starting.{new_store_by, starts_with, one_header}
+use Rattle.play_run.proofs.Starting.{new_store_by}
 use Rattle.play_run.proofs.opening.is_new_store.Goals as goal
 
 pub returns-then-zeros-clause-is : goal.returns-then-zeros-clause-is
@@ -16,9 +12,3 @@ returns-then-zeros-clause-is g c = λ tells.
     c.first_slot.ensures c.first_header-header.ensures (c.in_ok-meta.ensures.is tells) (c.in_ok-file.ensures.is tells) (c.in_ok-slot.ensures.is tells)
     (subst (λ (b : Block). IsTrue c.in_ok-zeros.zeros ↔ (block_at ((g.H.Host.disk c.is_block.new.host).files 0) 1 ≡ b)) c.zeros.ensures.value (c.in_ok-zeros.ensures.is tells)) (c.in_ok-first.ensures.is tells)
     c.if-zeros.true.0 c.if-zeros.true.1 c.if-zeros.true.2 c.if-zeros.true.3
-
-pub returns-then-zeros-clause-start : goal.returns-then-zeros-clause-start
-returns-then-zeros-clause-start g c = λ first.
-    starts_with g.H.Host.tells _ c.first_header-header.result c.first_header-header.ensures
-    (λ tells. ap (λ (f : Image). bytes_of (f 1)) (c.in_ok-first.ensures.files tells ∙ c.in_ok-zeros.ensures.files tells ∙ c.in_ok-slot.ensures.files tells ∙ c.in_ok-file.ensures.files tells ∙ c.in_ok-meta.ensures.files tells)
-    ∙ ap bytes_of (one_header _ c.first_header-header.result c.first_header-header.ensures ((returns-then-zeros-clause-is g c tells).0 first)))

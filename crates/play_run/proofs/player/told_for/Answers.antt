@@ -12,5 +12,5 @@ returns-in-Ok-None-tell-clause-bad g c = λ _. (
       let same = c.one_spelling.ensures.one_line false line c.in-Ok-Some.line c.args.text.now taken.is read in
       let none = rw c.in-Ok-None-tell.field-0-is at c.in-Ok-None-tell.ensures.built in
       absurd (false≢true (none.1 (subst (λ (l : Line). IsTrue (is_built l)) same taken.built))),
-  (rw c.in-Ok-None-tell.field-0-is at c.in-Ok-None-tell.ensures.none).2,
+  rw c.in-Ok-None-tell.field-0-is at c.in-Ok-None-tell.ensures.none,
 )

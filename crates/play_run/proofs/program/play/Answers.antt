@@ -1,4 +1,5 @@
-use Rattle.play_run.proofs.Scripts.{takes_no_bad, takes_no_end, nothing_said, leaves_from}
+use Rattle.play_run.specs.Seen.{seen}
+use Rattle.play_run.proofs.Scripts.{takes_no_bad, takes_no_end, nothing_said, leaves_from, seen_by}
 use Rattle.play_run.proofs.program.play.Goals as goal
 
 pub returns-then-not-are_words-clause-bad_line : goal.returns-then-not-are_words-clause-bad_line
@@ -14,9 +15,9 @@ pub returns-in-Ok-false-clause-bad_end : goal.returns-in-Ok-false-clause-bad_end
 returns-in-Ok-false-clause-bad_end g c = λ told taken. absurd (takes_no_end _ taken)
 
 pub returns-in-Err-clause-said_host : goal.returns-in-Err-clause-said_host
-returns-in-Err-clause-said_host g c = λ status words told tells new. nothing_said _ _ _ _ _ (λ _. c.in-Err.ensures.seen tells)
+returns-in-Err-clause-said_host g c = λ status words told tells new. nothing_said _ _ _ _ _ (λ _. seen_by (g.H.Host.disk c.args.host) (g.H.Host.disk c.is_new_store.new.host) (c.in-Err.ensures.files tells) (c.in-Err.ensures.silent tells))
 
 pub returns-in-Ok-true-clause-said_source : goal.returns-in-Ok-true-clause-said_source
 returns-in-Ok-true-clause-said_source g c = λ status told.
     let t = c.run_script.ensures.said_source status told in
-    (t.0, t.1, leaves_from _ _ _ _ _ (λ tells. c.in-Ok-true.ensures.seen tells) t.2)
+    (t.0, t.1, leaves_from _ (seen (g.H.Host.disk c.args.host)) (seen (g.H.Host.disk c.is_new_store.new.host)) _ _ (λ tells. seen_by (g.H.Host.disk c.args.host) (g.H.Host.disk c.is_new_store.new.host) (c.in-Ok-true.ensures.files tells) (c.in-Ok-true.ensures.silent tells)) t.2)

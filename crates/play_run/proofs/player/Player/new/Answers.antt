@@ -1,10 +1,9 @@
-use Rattle.std.proofs.Common.{◌∙◌}
+use Rattle.std.proofs.Common.{refl}
 use Rattle.play_run.proofs.Runs.{before_first}
-use Rattle.play_run.proofs.Counted.{counted_first}
 use Rattle.play_run.proofs.player.Player.new.Goals as goal
 
-pub returns-clause-counted : goal.returns-clause-counted
-returns-clause-counted g c = counted_first _ _ c.new.ensures.store (c.new.ensures.ledger ∙ c.requires)
-
 pub returns-clause-taken : goal.returns-clause-taken
-returns-clause-taken g c = λ base start. before_first _ base _ _ _ start c.new.ensures.store (c.new.ensures.ledger ∙ c.requires) c.new-2.ensures.items
+returns-clause-taken g c = λ base f stands same. before_first _ base _ f _ _ (c.new.ensures.start f stands) same c.new-2.ensures.items refl
+
+pub returns-clause-somewhere : goal.returns-clause-somewhere
+returns-clause-somewhere g c = λ f stands. (_, f, c.new.ensures.start f stands)

@@ -1,13 +1,15 @@
 use Rattle.std.proofs.Common.{◌++◌, arith, length-append, ◌∙◌}
+use Rattle.play_run.proofs.Counts.{faults_from}
 use Rattle.play_run.proofs.player.Player.run.Goals as goal
 
 pub script-preserved : goal.script-preserved
 script-preserved g c = record {
-  counted = c.in-Ok.ensures.counted;
+  somewhere = c.in-Ok.ensures.somewhere;
   small = omega (arith, c.in-Ok.ensures.fed.0, c.in-Ok.ensures.fed.1, c.in-Ok.ensures.fed.2, c.script.invariant.small);
   some = omega (arith, c.in-Ok.ensures.fed.1);
   within = omega (arith, c.script.invariant.within);
-  untroubled = c.in-Ok.ensures.untroubled ∙ c.script.invariant.untroubled;
+  host = c.in-Ok.ensures.untroubled.0 ∙ c.script.invariant.host;
+  view = c.in-Ok.ensures.untroubled.1 ∙ c.script.invariant.view;
   counts = omega (arith, c.script.invariant.counts, c.in-Ok.ensures.counts);
   taken = λ told base has.
       let before = c.script.invariant.taken told base has in
@@ -19,3 +21,6 @@ pub returns-in-Err-clause-ends : goal.returns-in-Err-clause-ends
 returns-in-Err-clause-ends g c = λ told base has.
     let before = c.script.invariant.taken told base has in
     c.in-Err.ensures.ends told base before.0 _ before.1 before.2 before.3
+
+pub returns-in-Err-clause-faults : goal.returns-in-Err-clause-faults
+returns-in-Err-clause-faults g c = faults_from c.in-Err.why _ _ _ _ _ c.script.invariant.host c.script.invariant.view c.in-Err.ensures.faults
