@@ -1,7 +1,5 @@
-use super::says;
 use super::script::Lines;
 use std::alloc::{AllocError, Global};
-use std::test::Fail;
 
 // A line `0 set` with so many letters of key, of body and of meta.
 fn set(lines: &mut Lines, key: u64, body: u64, meta: u64) -> Result<(), AllocError> {
@@ -40,16 +38,13 @@ fn longest_said(alloc: Global) -> Result<Lines, AllocError> {
     Ok(lines)
 }
 
-#[test]
-fn lengths(rt: HostRuntime) -> Result<(), Fail> {
-    let script = longest_script(rt.alloc())?;
-    let said = longest_said(rt.alloc())?;
-    says(&rt, rt.alloc(), script.as_slice(), said.as_slice(), 0)?;
-    Ok(())
+// The longest keys, bodies and metas and those that are too long, and what is said.
+pub(super) fn length_lines(alloc: Global) -> Result<(Lines, Lines), AllocError> {
+    Ok((longest_script(alloc)?, longest_said(alloc)?))
 }
 
 // `use s1` to `use s64`, and what is said: 63 stores are made beside `default`.
-fn store_lines(alloc: Global) -> Result<(Lines, Lines), AllocError> {
+pub(super) fn store_lines(alloc: Global) -> Result<(Lines, Lines), AllocError> {
     let mut script = Lines::new(alloc);
     let mut said = Lines::new(alloc);
     for id in 1..=64 {
@@ -66,11 +61,4 @@ fn store_lines(alloc: Global) -> Result<(Lines, Lines), AllocError> {
     }
     said.text(b" refused store-count\n")?;
     Ok((script, said))
-}
-
-#[test]
-fn there_are_64_stores_at_most(rt: HostRuntime) -> Result<(), Fail> {
-    let (script, said) = store_lines(rt.alloc())?;
-    says(&rt, rt.alloc(), script.as_slice(), said.as_slice(), 0)?;
-    Ok(())
 }

@@ -1,3 +1,4 @@
+use super::long::{length_lines, store_lines};
 use super::says;
 use std::test::Fail;
 
@@ -79,6 +80,10 @@ fn worked_rows(rt: HostRuntime) -> Result<(), Fail> {
     ];
     for (script, said, status) in rows {
         says(&rt, rt.alloc(), script, said, status)?;
+    }
+    let long_rows = [length_lines(rt.alloc())?, store_lines(rt.alloc())?];
+    for (script, said) in long_rows {
+        says(&rt, rt.alloc(), script.as_slice(), said.as_slice(), 0)?;
     }
     Ok(())
 }
