@@ -24,7 +24,8 @@ const USAGE: &str = "\
 usage: forest play --memory
 
 Runs the script of standard input over a new store in memory, and says one reply line per line.
-A line is `0 set KEY BODY`, `0 get KEY` or `0 commit`.
+A line is a lane from 0 to 15 and one of `use NAME`, `use NAME ro`, `remove NAME`, `set KEY BODY`, `set KEY BODY META`,
+`del KEY`, `batch ITEM ..`, `get KEY`, `byseq SEQ`, `commit` and `info`.
 ";
 
 fn main(rt: HostRuntime) -> ExitCode {
