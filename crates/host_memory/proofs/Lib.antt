@@ -1,6 +1,5 @@
 mod Picks
 mod Least
 mod Steps
-mod Grouped
 mod Told
 mod Crashes

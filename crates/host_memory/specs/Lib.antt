@@ -1,5 +1,4 @@
 pub mod Faults
-pub mod Grouped
 pub mod Held
 pub mod Kept
 pub mod Memory

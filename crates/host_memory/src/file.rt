@@ -5,9 +5,9 @@ ghost use Rattle.host_memory.specs.Pending.{FileState, oldest, torn_of, picked};
 ghost use Rattle.host_memory.specs.declared.change.Change.TheVariants.{Append, Slot, Shorten, Adopt};
 
 use crate::Pick;
-use crate::blocks::Blocks;
 use crate::change::Change;
 use block_host::Block;
+use block_list::Blocks;
 use ghost_past::Past;
 use std::alloc::{AllocError, Global};
 use std::marker::Model;

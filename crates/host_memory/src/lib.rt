@@ -1,14 +1,11 @@
 //! A host in memory, for tests. It tells all its content.
 #![tactic(auto)]
 
-mod blocks;
 mod change;
 mod faults;
 mod file;
 mod formatted;
 mod fresh;
-mod group;
-mod groups;
 mod memory_host;
 mod pick;
 mod state;

@@ -12,9 +12,9 @@ ghost use Rattle.std.specs.BTreeMap.{IsOrdered};
 ghost use Rattle.host_memory.specs.Pending.{FileState, qualifies};
 
 use crate::Pick;
-use crate::blocks::Blocks;
 use crate::file::File;
 use block_host::Block;
+use block_list::Blocks;
 use std::alloc::{AllocError, Global};
 use std::collections::BTreeMap;
 

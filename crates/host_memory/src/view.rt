@@ -1,8 +1,8 @@
 ghost use Rattle.std.specs.Prelude.{◌≡◌, true};
 
-use crate::blocks::Blocks;
 use crate::faults::Faults;
 use block_host::{Block, Failed, View};
+use block_list::Blocks;
 
 /// A view of a file of a host in memory.
 #[derive(Drop)]
