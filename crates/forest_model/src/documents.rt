@@ -8,6 +8,7 @@ ghost use Rattle.forest_model.specs.Documents.{is_of, is_numbered, doc_numbered,
 use crate::bytes::Bytes;
 use std::alloc::{AllocError, Global};
 use std::collections::BTreeMap;
+use std::collections::btree_map::Iter;
 use std::marker::Model;
 
 /// Where a document stands: its store and its key.
@@ -77,6 +78,13 @@ impl Documents {
         ensures { result ≡ finite.len self.now }
     {
         self.entries.len()
+    }
+
+    /// The documents in the order of their keys.
+    pub fn iter(&self) -> Iter<'_, DocKey, Doc>
+        ensures { result ≡ finite.entries self.now }
+    {
+        self.entries.iter()
     }
 
     /// Sets the document at a key, and answers the one before. A refusal for memory leaves the documents as they are.
