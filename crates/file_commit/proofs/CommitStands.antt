@@ -25,9 +25,11 @@ use Rattle.forest_model.specs.declared.state.Store.{Store}
 use Rattle.forest_model.specs.declared.stored.Entry.{Entry}
 use Rattle.forest_model.specs.declared.stored.Rec.{Rec}
 use Rattle.model_laws.specs.Laws.{RulesStay, NothingNewMeans}
-use Rattle.file_core.specs.Held.{Held}
-use Rattle.file_core.specs.Stands.{Stands, AreDocuments, HasDocument, IsKept, put_of, SameAtSameNumber}
-use Rattle.file_core.specs.Updates.{Moment, StandsAt, IsFile, bytes_of}
+use Rattle.file_parts.specs.Held.{Held}
+use Rattle.file_core.specs.Stands.{Stands, AreDocuments, HasDocument, IsKept, SameAtSameNumber}
+use Rattle.file_documents.specs.Setting.{put_of}
+use Rattle.file_parts.specs.Moment.{Moment}
+use Rattle.file_core.specs.Updates.{StandsAt, IsFile, bytes_of}
 use Rattle.file_commit.specs.Committing.{listed, IsOpenBlock, CommitsFile}
 use Rattle.file_commit.proofs.Grown.{length-bytes_of, bytes-append, open_records, open_count, Grown, grown_is, adds}
 

@@ -16,9 +16,10 @@ use Rattle.forest_model.specs.declared.refusal.Refusal.{Refusal}
 use Rattle.forest_model.specs.declared.refusal.Refusal.TheVariants.{ReadOnly, Worn}
 use Rattle.forest_model.specs.declared.state.State.{State}
 use Rattle.model_laws.specs.Laws.{RulesStay, NothingNewMeans}
-use Rattle.file_core.specs.Held.{Held}
+use Rattle.file_parts.specs.Held.{Held}
 use Rattle.file_core.specs.Stands.{Stands}
-use Rattle.file_core.specs.Updates.{Moment, StandsAt, IsFile, CommitsAs}
+use Rattle.file_parts.specs.Moment.{Moment}
+use Rattle.file_core.specs.Updates.{StandsAt, IsFile, CommitsAs}
 use Rattle.file_commit.specs.Committing.{is_commit_worn, is_far, Stays, CommitGives, CommitAnswers}
 use Rattle.file_commit.proofs.Headers.{header-below}
 use Rattle.file_commit.proofs.NothingNew.{nothing_is}

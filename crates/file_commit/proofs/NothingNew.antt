@@ -21,7 +21,8 @@ use Rattle.forest_model.specs.declared.state.State.{State}
 use Rattle.forest_model.specs.declared.state.Store.{Store}
 use Rattle.model_laws.specs.Laws.{NothingNewMeans}
 use Rattle.file_core.specs.Stands.{row_in, SameAtSameNumber}
-use Rattle.file_core.specs.Updates.{Moment, StandsAt}
+use Rattle.file_parts.specs.Moment.{Moment}
+use Rattle.file_core.specs.Updates.{StandsAt}
 use Rattle.file_commit.specs.Committing.{are_same_rows}
 
 -- ---- keys

@@ -5,7 +5,7 @@ use Rattle.block_host.specs.Sealed.{IsSealed}
 use Rattle.block_host.specs.declared.block.Block.{Block}
 use Rattle.doc_stream.specs.OpenBlock.{OpenBlock}
 use Rattle.forest_model.specs.declared.stored.Header.{Header}
-use Rattle.file_core.specs.Held.{Held}
+use Rattle.file_parts.specs.Held.{Held}
 use Rattle.file_commit.specs.Committing.{IsOpenBlock, listed, header_after, held_after, TellsHeader}
 
 -- what padding tells of the block that comes out of it

@@ -14,8 +14,8 @@ use Rattle.forest_model.specs.declared.call.StoreRef.{StoreRef}
 use Rattle.forest_model.specs.declared.refusal.Refusal.{Refusal}
 use Rattle.forest_model.specs.declared.refusal.Refusal.TheVariants.{ReadOnly, Worn, DiskFault}
 use Rattle.forest_model.specs.declared.stored.Header.{Header}
-use Rattle.file_core.specs.Held.{Held}
-use Rattle.file_core.specs.Updates.{Moment}
+use Rattle.file_parts.specs.Held.{Held}
+use Rattle.file_parts.specs.Moment.{Moment}
 
 -- the same store at the same sequence number
 abbrev pub is_same_row : StoreRow → StoreRow → Bool

@@ -3,8 +3,9 @@ ghost use Rattle.block_host.specs.Order.{IsSettled};
 ghost use Rattle.forest_model.specs.Blocks.{File};
 ghost use Rattle.forest_model.specs.declared.refusal.Refusal.TheVariants as Refusal;
 ghost use Rattle.forest_model.specs.declared.state.State.{State};
-ghost use Rattle.file_core.specs.Held.{held};
-ghost use Rattle.file_core.specs.Updates.{StandsAt, IsFile, CommitsAs, Aside, moment_of};
+ghost use Rattle.file_parts.specs.Held.{held};
+ghost use Rattle.file_core.specs.Updates.{StandsAt, IsFile, CommitsAs};
+ghost use Rattle.file_parts.specs.Moment.{Aside, moment_of};
 ghost use Rattle.file_commit.specs.Committing.{is_commit_worn, is_far, header_after, held_after, CommitAnswers, CommitGives};
 
 use crate::disk::put_commit;

@@ -1,7 +1,7 @@
 ghost use Rattle.std.specs.Prelude.{◌≡◌, ◌≤◌, ◌++◌, ◌∷◌, [], IsTrue, OnOk, OnErr};
 ghost use Rattle.block_host.specs.Disk.{risen};
 ghost use Rattle.block_host.specs.Order.{IsSettled};
-ghost use Rattle.file_core.specs.Updates.{Aside};
+ghost use Rattle.file_parts.specs.Moment.{Aside};
 ghost use Rattle.file_commit.specs.Committing.{listed};
 
 use block_host::{Block, Failed, Host};

@@ -1,5 +1,5 @@
 -- A read answers what the step answers.
-use Rattle.std.proofs.Common.{◌≡◌, ◌⊎◌, ℕ, Bool, List, refl, sym, ap, ◌∙◌, subst, inl, inr}
+use Rattle.std.proofs.Common.{◌≡◌, ℕ, Bool, List, refl, sym, ap, ◌∙◌, subst, inl, inr}
 use Rattle.std.specs.Prelude.{Result, Ok, Err, IsTrue}
 use Rattle.block_host.specs.Disk.{Disk}
 use Rattle.block_host.specs.declared.block.Block.{Block}
@@ -13,15 +13,14 @@ use Rattle.forest_model.specs.declared.call.StoreRef.{StoreRef}
 use Rattle.forest_model.specs.declared.documents.DocKey.{DocKey}
 use Rattle.forest_model.specs.declared.documents.Doc.{Doc}
 use Rattle.forest_model.specs.declared.refusal.Refusal.{Refusal}
-use Rattle.forest_model.specs.declared.refusal.Refusal.TheVariants.{NoMemory, DiskFault}
 use Rattle.forest_model.specs.declared.state.State.{State}
 use Rattle.forest_model.specs.declared.stored.Entry.{Entry}
-use Rattle.forest_model.specs.declared.stored.Rec.{Rec}
 use Rattle.wal_index.specs.Index.{key_at}
-use Rattle.file_core.specs.Held.{Held}
-use Rattle.file_core.specs.Lookup.{entry_of_key, LooksUpNumber, found_in, FindsRecord}
+use Rattle.file_parts.specs.Held.{Held}
+use Rattle.file_parts.specs.Lookup.{entry_of_key, LooksUpNumber, FindsRecord}
 use Rattle.file_core.specs.Reads.{ReadFails, ReadsAs}
-use Rattle.file_core.specs.Stands.{put_of, IsKept, Stands}
+use Rattle.file_documents.specs.Setting.{put_of}
+use Rattle.file_core.specs.Stands.{IsKept, Stands}
 use Rattle.file_core.proofs.Standing.{KeyAnswers, key_answers, number_refused, number_found, number_absent}
 
 refuses : (told : Bool) (s : State) (call : Call) (revision before after : ℕ) (why : Refusal) (result : Result Found Refusal) → result ≡ Err why → step_with_room s call ≡ (Refused why, s) → ReadsAs told s call revision before after result
@@ -88,10 +87,3 @@ module _ (told : Bool) (p : Held) (disk : Disk) (file : List Block) (s : State) 
       let there = looked.found in
       let answer = number_found told p disk file s stands at seq there.2 e there.0 there.1 there.3 in
       document_read told tells views s (Call.BySeq at seq) (key_at at.store there.2) e answer.0 p.revision before after file p.tail answer.1 answer.2 result finds
-
--- the record read is the one that stands at the address
-pub same_found : (e : Entry) (a r : Rec) → (◌≡◌ {A = Result Rec Refusal} (Ok a) (Ok r)) ⊎ (◌≡◌ {A = Result Rec Refusal} (Ok a) (Err NoMemory)) ⊎ (◌≡◌ {A = Result Rec Refusal} (Ok a) (Err DiskFault)) → found_in e a ≡ found_in e r
-same_found e a r which = elim which [
-  | inl same ↦ (let is : a ≡ r = cc in ap (found_in e) is)
-  | inr other ↦ elim other [ inl memory ↦ cc | inr fault ↦ cc ]
-]

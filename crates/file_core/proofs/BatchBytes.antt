@@ -9,10 +9,11 @@ use Rattle.forest_model.specs.Documents.{key_at, doc_of}
 use Rattle.forest_model.specs.Step.{item_length}
 use Rattle.forest_model.specs.declared.call.Item.{Item}
 use Rattle.forest_model.specs.declared.call.Item.TheVariants.{Put, Del}
-use Rattle.file_core.specs.Stands.{put_of}
-use Rattle.file_core.specs.Deleting.{deletion_of}
-use Rattle.file_core.specs.Batching.{Turn, PutsItem, PutsEach, item_record}
-use Rattle.file_core.proofs.SetBlocks.{length-record, put_lengths}
+use Rattle.file_documents.specs.Setting.{put_of}
+use Rattle.file_documents.specs.Deleting.{deletion_of}
+use Rattle.file_documents.specs.Batching.{Turn, PutsItem, PutsEach, item_record}
+use Rattle.file_documents.proofs.RecordLength.{length-record}
+use Rattle.file_core.proofs.SetBlocks.{put_lengths}
 
 -- ---- what the crate below promises of bytes put one after another
 

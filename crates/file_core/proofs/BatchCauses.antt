@@ -22,10 +22,10 @@ use Rattle.forest_model.specs.declared.refusal.Refusal.{Refusal}
 use Rattle.forest_model.specs.declared.refusal.Refusal.TheVariants.{ReadOnly, KeyLength, BodyLength, NoStore, Worn, NotFound, FileFull}
 use Rattle.forest_model.specs.declared.state.State.{State}
 use Rattle.wal_index.specs.Index.{Map as Entries}
-use Rattle.file_core.specs.Held.{Held}
+use Rattle.file_parts.specs.Held.{Held}
 use Rattle.file_core.specs.Stands.{Stands}
-use Rattle.file_core.specs.Setting.{is_live}
-use Rattle.file_core.specs.Batching.{lives_behind, misses, batch_needed, batch_causes}
+use Rattle.file_documents.specs.Setting.{is_live}
+use Rattle.file_documents.specs.Batching.{lives_behind, misses, batch_needed, batch_causes}
 use Rattle.file_core.proofs.Deleted.{living_is}
 use Rattle.file_core.proofs.Inserted.{got_own, got_other}
 use Rattle.file_core.proofs.Removed.{removed_own, removed_other}

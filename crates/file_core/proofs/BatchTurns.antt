@@ -1,5 +1,5 @@
 -- Index, documents and numbers item by item, while a batch is put behind the file.
-use Rattle.std.proofs.Common.{◌≡◌, ◌≢◌, ℕ, ◌+◌, ◌-◌, ◌^◌, ◌≤◌, ◌<◌, Bool, true, false, cond, List, [], ◌∷◌, length, Option, Some, None, refl, sym, ap, subst, ◌∙◌, arith, length-append}
+use Rattle.std.proofs.Common.{◌≡◌, ◌≢◌, ℕ, ◌+◌, ◌^◌, ◌≤◌, ◌<◌, Bool, true, false, cond, List, [], ◌∷◌, length, Option, Some, None, refl, sym, ap, subst, ◌∙◌, arith, length-append}
 use Rattle.std.specs.Prelude.{◌==◌, IsTrue, is_some, sum_by, if◌then◌else◌}
 use Rattle.std.specs.Option.{option_map, option_map_or}
 use Rattle.std.specs.FinMap as finite
@@ -23,9 +23,9 @@ use Rattle.forest_model.specs.declared.stored.Entry.{Entry}
 use Rattle.forest_model.specs.declared.stored.Rec.{Rec}
 use Rattle.wal_index.specs.Index.{Map as Entries}
 use Rattle.file_core.specs.Stands.{AreDocuments, DrawNumbers}
-use Rattle.file_core.specs.Setting.{is_live, entry_of}
-use Rattle.file_core.specs.Deleting.{deleted_entry}
-use Rattle.file_core.specs.Batching.{Turn, PutsItem, PutsEach, item_record}
+use Rattle.file_documents.specs.Setting.{is_live, entry_of}
+use Rattle.file_documents.specs.Deleting.{deleted_entry}
+use Rattle.file_documents.specs.Batching.{Turn, PutsItem, PutsEach, item_record}
 use Rattle.file_core.proofs.BatchBytes.{put_short}
 use Rattle.file_core.proofs.Deleted.{documents_deleted}
 use Rattle.file_core.proofs.Inserted.{got_other, live-part, live-insert, count-insert, count-other, count-live}

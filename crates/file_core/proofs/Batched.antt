@@ -26,12 +26,13 @@ use Rattle.forest_model.specs.declared.stored.Rec.{Rec}
 use Rattle.kvs_names.specs.Table.{counted}
 use Rattle.model_laws.specs.Laws.{RulesStay, RecordsKeepHeader}
 use Rattle.wal_index.specs.Index.{Map as Entries}
-use Rattle.file_core.specs.Held.{Held}
+use Rattle.file_parts.specs.Held.{Held}
 use Rattle.file_core.specs.Stands.{AreDocuments, DrawNumbers}
-use Rattle.file_core.specs.Setting.{seq_in, OnlyMemory}
-use Rattle.file_core.specs.Updates.{Moment, StandsAt, IsFile, UpdatesAs, bytes_of}
-use Rattle.file_core.specs.Writing.{WritesFile}
-use Rattle.file_core.specs.Batching.{Turn, first_turn, batch_needed, batch_causes, BatchesFile, BatchGives, BatchAnswers}
+use Rattle.file_parts.specs.Causes.{seq_in, OnlyMemory}
+use Rattle.file_parts.specs.Moment.{Moment}
+use Rattle.file_core.specs.Updates.{StandsAt, IsFile, UpdatesAs, bytes_of}
+use Rattle.file_documents.specs.Writing.{WritesFile}
+use Rattle.file_documents.specs.Batching.{Turn, first_turn, batch_needed, batch_causes, BatchesFile, BatchGives, BatchAnswers}
 use Rattle.file_core.proofs.BatchBytes.{PutsJoin, PutsNone, bytes_of_items, length-items, items_joined, each_behind}
 use Rattle.file_core.proofs.BatchCauses.{misses_too, batch_refused, batch_answered}
 use Rattle.file_core.proofs.BatchTurns.{AtTurn, numbers_raised, each_turn}

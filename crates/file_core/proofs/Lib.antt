@@ -4,17 +4,14 @@ pub mod SetCauses
 pub mod SetEntries
 pub mod SetBlocks
 pub mod SetStands
-pub mod SetDone
 pub mod Removed
 pub mod Written
 pub mod Deleted
-pub mod DeleteDone
 pub mod BatchCauses
 pub mod BatchBytes
 pub mod BatchTurns
 pub mod Batched
 pub mod Numbered
-pub mod Lookups
 pub mod Standing
 pub mod Answering
 pub mod PutRecord
@@ -22,9 +19,5 @@ pub mod StoreTables
 pub mod StoreCauses
 pub mod StoreMade
 pub mod StoreSums
-pub mod StoreLeft
 pub mod StoreLess
 pub mod StoreGone
-pub mod BatchItems
-pub mod BatchPut
-pub mod BatchDone

@@ -1,10 +1,9 @@
 -- What the file stands for once a record is put that says nothing of a document.
-use Rattle.std.proofs.Common.{◌≡◌, ℕ, ◌+◌, ◌*◌, ◌/◌, ◌%◌, ◌≤◌, ◌<◌, Bool, List, ◌++◌, length, Some, refl, sym, ap, subst, ◌∙◌, arith, length-append}
+use Rattle.std.proofs.Common.{◌≡◌, ℕ, ◌+◌, ◌*◌, ◌/◌, ◌%◌, ◌<◌, Bool, List, ◌++◌, length, Some, refl, sym, ap, subst, ◌∙◌, arith, length-append}
 use Rattle.std.specs.Prelude.{IsTrue}
 use Rattle.std.specs.List.{list_all}
 use Rattle.std.specs.FinMap as finite
 use Rattle.block_host.specs.declared.block.Block.{Block}
-use Rattle.doc_stream.specs.OpenBlock.{OpenBlock, PutsBytes}
 use Rattle.doc_stream.specs.Reading.{RecordAt}
 use Rattle.doc_stream.specs.Records.{record_bytes}
 use Rattle.forest_model.specs.Blocks.{File, is_records}
@@ -13,8 +12,9 @@ use Rattle.forest_model.specs.declared.state.State.{State}
 use Rattle.forest_model.specs.declared.stored.Rec.{Rec}
 use Rattle.model_laws.specs.Laws.{RecordsKeepHeader}
 use Rattle.file_core.specs.Stands.{AreDocuments}
-use Rattle.file_core.specs.StoreChanges.{PutsRecord}
-use Rattle.file_core.specs.Updates.{Moment, StandsAt, IsFile, bytes_of}
+use Rattle.file_stores.specs.StoreChanges.{PutsRecord}
+use Rattle.file_parts.specs.Moment.{Moment}
+use Rattle.file_core.specs.Updates.{StandsAt, IsFile, bytes_of}
 use Rattle.file_core.proofs.SetBlocks.{Lengths, put_lengths, put_records, behind, length-bytes_of, bytes-append}
 use Rattle.file_core.proofs.SetEntries.{has_more}
 use Rattle.file_core.proofs.SetStands.{PutsKeep}

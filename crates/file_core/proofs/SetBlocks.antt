@@ -7,14 +7,8 @@ use Rattle.std.proofs.Math.Seq.{get_or-append_seam}
 use Rattle.block_host.specs.declared.block.Block.{Block}
 use Rattle.block_host.specs.Sealed.{IsSealed, sealed_front, with_checksum, padded, zeros}
 use Rattle.doc_stream.specs.OpenBlock.{OpenBlock, AreFull, PutsBytes}
-use Rattle.doc_stream.specs.Records.{record_bytes}
 use Rattle.forest_model.specs.Blocks.{is_records}
-use Rattle.forest_model.specs.Step.{record_length}
-use Rattle.forest_model.specs.declared.stored.Rec.{Rec}
 use Rattle.file_core.specs.Updates.{bytes_of}
-
-pub length-record : (r : Rec) → length (record_bytes r) ≡ record_length r.key r.meta r.body
-length-record r = omega (arith, length-append r.key r.meta, length-append (r.key ++ r.meta) r.body)
 
 full-length : (revision at : ℕ) (blocks : List Block) (whole : List ℕ) → AreFull revision at blocks whole → length whole ≡ length blocks * 4064
 full-length revision at [] whole none = ap length none

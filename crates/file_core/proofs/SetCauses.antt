@@ -18,9 +18,10 @@ use Rattle.forest_model.specs.declared.refusal.Refusal.TheVariants.{ReadOnly, Ke
 use Rattle.forest_model.specs.declared.state.State.{State}
 use Rattle.forest_model.specs.declared.state.Store.{Store}
 use Rattle.kvs_names.specs.Table.{row_with_id}
-use Rattle.file_core.specs.Held.{Held}
+use Rattle.file_parts.specs.Held.{Held}
 use Rattle.file_core.specs.Stands.{Stands, row_in}
-use Rattle.file_core.specs.Setting.{seq_in, documents_in, blocks_needed, set_causes}
+use Rattle.file_parts.specs.Causes.{seq_in, documents_in, blocks_needed}
+use Rattle.file_documents.specs.Setting.{set_causes}
 use Rattle.file_core.proofs.StoreRows.{row_found, found_id}
 
 -- ---- causes one after another

@@ -19,8 +19,8 @@ use Rattle.forest_model.specs.declared.state.Store.{Store}
 use Rattle.forest_model.specs.declared.stored.Entry.{Entry}
 use Rattle.forest_model.specs.declared.stored.Rec.{Rec}
 use Rattle.wal_index.specs.Index.{Map as Entries, entry_at, has_number}
-use Rattle.file_core.specs.Stands.{IsKept, HasDocument, AreDocuments, DrawNumbers, SameAtSameNumber, put_of}
-use Rattle.file_core.specs.Setting.{is_live, live_len, entry_of}
+use Rattle.file_core.specs.Stands.{IsKept, HasDocument, AreDocuments, DrawNumbers, SameAtSameNumber}
+use Rattle.file_documents.specs.Setting.{put_of, is_live, live_len, entry_of}
 use Rattle.file_core.proofs.Inserted.{same_or_other, got_own, got_other, part}
 use Rattle.file_core.proofs.StoreRows.{found_id, store_of-with_seq, own_raised, each_raised}
 

@@ -29,15 +29,18 @@ use Rattle.forest_model.specs.declared.state.Store.{Store}
 use Rattle.forest_model.specs.declared.stored.Entry.{Entry}
 use Rattle.forest_model.specs.declared.stored.Rec.{Rec}
 use Rattle.model_laws.specs.Laws.{RulesStay, RecordsKeepHeader}
-use Rattle.file_core.specs.Held.{Held}
-use Rattle.file_core.specs.Stands.{Stands, AreDocuments, DrawNumbers, put_of}
-use Rattle.file_core.specs.Updates.{Moment, StandsAt, IsFile, UpdatesAs, bytes_of}
-use Rattle.file_core.specs.Setting.{seq_in, documents_in, set_causes, is_live, documents_after, live_after, entry_of, blocks_needed, SetsFile, OnlyMemory, SetGives, SetAnswers}
+use Rattle.file_parts.specs.Held.{Held}
+use Rattle.file_core.specs.Stands.{Stands, AreDocuments, DrawNumbers}
+use Rattle.file_documents.specs.Setting.{put_of, set_causes, is_live, documents_after, live_after, entry_of, SetsFile, SetGives, SetAnswers}
+use Rattle.file_parts.specs.Moment.{Moment}
+use Rattle.file_core.specs.Updates.{StandsAt, IsFile, UpdatesAs, bytes_of}
+use Rattle.file_parts.specs.Causes.{seq_in, documents_in, blocks_needed, OnlyMemory}
 use Rattle.file_core.proofs.Inserted.{live-part, live-insert, count-insert, count-other, count-live}
 use Rattle.file_core.proofs.StoreRows.{rows_counted}
 use Rattle.file_core.proofs.SetCauses.{none_holds, unmet, gone_is, seq_is, documents_is, step_refused, step_answered}
 use Rattle.file_core.proofs.SetEntries.{documents_set, older_len, older_lives, numbers_set, unchanged_set}
-use Rattle.file_core.proofs.SetBlocks.{Lengths, put_lengths, length-record, put_records, behind, length-bytes_of, bytes-append}
+use Rattle.file_core.proofs.SetBlocks.{Lengths, put_lengths, put_records, behind, length-bytes_of, bytes-append}
+use Rattle.file_documents.proofs.RecordLength.{length-record}
 
 -- ---- what the crates below promise of records
 

@@ -26,8 +26,8 @@ use Rattle.forest_model.specs.declared.stored.Entry.{Entry}
 use Rattle.kvs_names.specs.Table.{row_with_id}
 use Rattle.std.proofs.lemmas.Bool.{eqb-true, eq-eqb}
 use Rattle.wal_index.specs.Index.{key_at, entry_at}
-use Rattle.file_core.specs.Held.{Held}
-use Rattle.file_core.specs.Lookup.{stop_of, unless_refused, numbers_in, why_no_store, living, entry_of_key, IsNumbered, NoneLives, ticket_in, info_with, info_in}
+use Rattle.file_parts.specs.Held.{Held}
+use Rattle.file_parts.specs.Lookup.{stop_of, unless_refused, numbers_in, why_no_store, living, entry_of_key, IsNumbered, NoneLives, ticket_in, info_with, info_in}
 use Rattle.file_core.specs.Stands.{row_in, IsKept, HasDocument, Stands}
 use Rattle.file_core.proofs.Numbered.{passes, none_numbered, the_numbered}
 

@@ -1,5 +1,5 @@
 -- The causes of the opening of a store by what is in memory are those of the step.
-use Rattle.std.proofs.Common.{◌≡◌, ℕ, ◌+◌, ◌/◌, Bool, true, false, List, [], ◌∷◌, ◌++◌, length, map, Option, Some, None, refl, sym, ap, ◌∙◌}
+use Rattle.std.proofs.Common.{◌≡◌, ℕ, ◌+◌, ◌/◌, Bool, List, [], ◌∷◌, ◌++◌, length, Option, Some, None, refl, sym, ap, ◌∙◌}
 use Rattle.std.specs.Prelude.{is_none, nat_le, nat_lt, not, ◌&&◌, if◌then◌else◌}
 use Rattle.std.specs.Option.{option_map, option_map_or}
 use Rattle.std.proofs.lemmas.List.{length-map}
@@ -9,7 +9,7 @@ use Rattle.forest_model.specs.Blocks.{File}
 use Rattle.forest_model.specs.Documents.{Map}
 use Rattle.forest_model.specs.Limits.{is_name, any_worn}
 use Rattle.forest_model.specs.Stores.{store_named}
-use Rattle.forest_model.specs.Step.{Outcome, ◌where_holds◌, first_cause, causes, full, record_length, step_of, answer}
+use Rattle.forest_model.specs.Step.{◌where_holds◌, first_cause, causes, full, record_length, step_of, answer}
 use Rattle.forest_model.specs.declared.call.Call.TheVariants as calls
 use Rattle.forest_model.specs.declared.call.Reply.TheVariants.{Refused}
 use Rattle.forest_model.specs.declared.refusal.Refusal.{Refusal}
@@ -17,10 +17,10 @@ use Rattle.forest_model.specs.declared.refusal.Refusal.TheVariants.{NameForm, No
 use Rattle.forest_model.specs.declared.state.State.{State}
 use Rattle.forest_model.specs.declared.state.Store.{Store}
 use Rattle.kvs_names.specs.Table.{row_named}
-use Rattle.file_core.specs.Held.{Held}
+use Rattle.file_parts.specs.Held.{Held}
 use Rattle.file_core.specs.Stands.{Stands, row_in}
-use Rattle.file_core.specs.Setting.{blocks_needed}
-use Rattle.file_core.specs.StoreChanges.{id_named, make_causes, open_causes}
+use Rattle.file_parts.specs.Causes.{blocks_needed}
+use Rattle.file_stores.specs.StoreChanges.{id_named, make_causes, open_causes}
 use Rattle.file_core.proofs.SetCauses.{refused_first, answered_last}
 use Rattle.file_core.proofs.StoreTables.{named_found}
 

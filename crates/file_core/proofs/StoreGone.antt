@@ -28,12 +28,13 @@ use Rattle.forest_model.specs.declared.stored.Rec.{Rec}
 use Rattle.kvs_names.specs.Table as tables
 use Rattle.model_laws.specs.Laws.{RulesStay, RecordsKeepHeader}
 use Rattle.wal_index.specs.Live.{own_live}
-use Rattle.file_core.specs.Held.{Held}
-use Rattle.file_core.specs.Setting.{blocks_needed, OnlyMemory}
+use Rattle.file_parts.specs.Held.{Held}
+use Rattle.file_parts.specs.Causes.{blocks_needed, OnlyMemory}
 use Rattle.file_core.specs.Stands.{Stands, AreDocuments, DrawNumbers, row_in}
-use Rattle.file_core.specs.StoreChanges.{id_named, gone_of, remove_causes, RemovesStore, RemoveGives, RemoveAnswers}
-use Rattle.file_core.specs.Updates.{Moment, StandsAt, IsFile, UpdatesAs, bytes_of}
-use Rattle.file_core.proofs.SetBlocks.{length-record}
+use Rattle.file_stores.specs.StoreChanges.{id_named, gone_of, remove_causes, RemovesStore, RemoveGives, RemoveAnswers}
+use Rattle.file_parts.specs.Moment.{Moment}
+use Rattle.file_core.specs.Updates.{StandsAt, IsFile, UpdatesAs, bytes_of}
+use Rattle.file_documents.proofs.RecordLength.{length-record}
 use Rattle.file_core.proofs.SetCauses.{none_holds, unmet, refused_first, answered_last}
 use Rattle.file_core.proofs.SetEntries.{older_len}
 use Rattle.file_core.proofs.SetStands.{PutsKeep, kept_stands, kept_file, same_refusal, has_room}

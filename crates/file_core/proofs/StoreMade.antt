@@ -1,16 +1,15 @@
 -- The file stands for the state after the opening of a store.
-use Rattle.std.proofs.Common.{◌≡◌, ◌≢◌, ℕ, ◌+◌, ◌*◌, ◌/◌, ◌%◌, ◌^◌, ◌≤◌, ◌<◌, Bool, false, List, [], ◌∷◌, ◌++◌, length, map, Option, Some, None, Ok, Err, refl, sym, ap, subst, ◌∙◌, arith, inl, inr}
-use Rattle.std.specs.Prelude.{IsTrue, is_none, MatchBool, MatchOption, MatchResult, Result, if◌then◌else◌, ◌==◌}
+use Rattle.std.proofs.Common.{◌≡◌, ◌≢◌, ℕ, ◌+◌, ◌/◌, ◌≤◌, Bool, false, List, [], ◌∷◌, ◌++◌, length, map, Option, Some, None, Ok, Err, refl, sym, ap, subst, ◌∙◌, arith, inl, inr}
+use Rattle.std.specs.Prelude.{is_none, MatchBool, MatchOption, MatchResult, Result, if◌then◌else◌}
 use Rattle.std.specs.Option.{option_map, option_map_or}
 use Rattle.std.proofs.lemmas.Bool.{eq-eqb, ne_eqb}
 use Rattle.std.proofs.lemmas.Option.{none-some, same_Some}
 use Rattle.doc_stream.specs.Records.{record_bytes}
 use Rattle.forest_model.specs.Blocks.{File}
-use Rattle.forest_model.specs.Documents.{count_of}
 use Rattle.forest_model.specs.Run.{FileAfter, Grows, AddsRecords}
 use Rattle.forest_model.specs.State.{IsState}
 use Rattle.forest_model.specs.Stores.{store_named, new_store}
-use Rattle.forest_model.specs.Step.{Outcome, answer, first_cause, record_length, step_of, updated}
+use Rattle.forest_model.specs.Step.{Outcome, first_cause, record_length, step_of, updated}
 use Rattle.forest_model.specs.declared.call.Call.TheVariants as calls
 use Rattle.forest_model.specs.declared.call.Reply.TheVariants as replies
 use Rattle.forest_model.specs.declared.call.StoreRef.{StoreRef}
@@ -19,15 +18,16 @@ use Rattle.forest_model.specs.declared.state.State.{State}
 use Rattle.forest_model.specs.declared.state.Store.{Store}
 use Rattle.forest_model.specs.declared.stored.Rec.{Rec}
 use Rattle.model_laws.specs.Laws.{RulesStay, RecordsKeepHeader}
-use Rattle.file_core.specs.Held.{Held}
-use Rattle.file_core.specs.Setting.{blocks_needed, OnlyMemory}
+use Rattle.file_parts.specs.Held.{Held}
+use Rattle.file_parts.specs.Causes.{blocks_needed, OnlyMemory}
 use Rattle.file_core.specs.Stands.{Stands, row_in}
-use Rattle.file_core.specs.StoreChanges.{id_named, make_causes, open_causes, new_of, PutsRecord, MakesStore, NotPut, OpenGives, OpenAnswers}
-use Rattle.file_core.specs.Updates.{Moment, StandsAt, IsFile, UpdatesAs, bytes_of}
-use Rattle.file_core.proofs.SetBlocks.{length-record}
+use Rattle.file_stores.specs.StoreChanges.{id_named, make_causes, open_causes, new_of, MakesStore, NotPut, OpenGives, OpenAnswers}
+use Rattle.file_parts.specs.Moment.{Moment}
+use Rattle.file_core.specs.Updates.{StandsAt, IsFile, UpdatesAs, bytes_of}
+use Rattle.file_documents.proofs.RecordLength.{length-record}
 use Rattle.file_core.proofs.SetCauses.{none_holds, unmet}
 use Rattle.file_core.proofs.SetStands.{PutsKeep, kept_stands, kept_file, same_refusal, has_room}
-use Rattle.file_core.proofs.PutRecord.{number_is, bytes_are, loose_is, new_short, size_is, documents_stay, adds, file_is}
+use Rattle.file_core.proofs.PutRecord.{number_is, bytes_are, loose_is, size_is, documents_stay, adds, file_is}
 use Rattle.file_core.proofs.StoreTables.{rows_added, none_of_next, numbers_added, unchanged_added}
 use Rattle.file_core.proofs.StoreCauses.{id_is, open_refused, open_answered}
 

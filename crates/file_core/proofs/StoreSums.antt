@@ -17,7 +17,7 @@ use Rattle.forest_model.specs.declared.stored.Entry.{Entry}
 use Rattle.file_image.specs.Commits.{live_of, live_bytes}
 use Rattle.wal_index.specs.Index.{Map as Entries, key_entry}
 use Rattle.wal_index.specs.Live.{own_len, own_live}
-use Rattle.file_core.specs.Setting.{live_len}
+use Rattle.file_documents.specs.Setting.{live_len}
 use Rattle.file_core.proofs.Inserted.{exact_keys, keys_total, same_or_other, part, none_below, below_less, both, is_true}
 
 -- ---- two maps whose values add the same at each key

@@ -17,10 +17,11 @@ use Rattle.forest_model.specs.declared.call.StoreRef.{StoreRef}
 use Rattle.forest_model.specs.declared.state.State.{State}
 use Rattle.forest_model.specs.declared.stored.Rec.{Rec}
 use Rattle.model_laws.specs.Laws.{RulesStay, RecordsKeepHeader}
-use Rattle.file_core.specs.Held.{Held}
+use Rattle.file_parts.specs.Held.{Held}
 use Rattle.file_core.specs.Stands.{Stands, AreDocuments, DrawNumbers, SameAtSameNumber}
-use Rattle.file_core.specs.Updates.{Moment, StandsAt, IsFile, bytes_of}
-use Rattle.file_core.specs.Writing.{WritesFile}
+use Rattle.file_parts.specs.Moment.{Moment}
+use Rattle.file_core.specs.Updates.{StandsAt, IsFile, bytes_of}
+use Rattle.file_documents.specs.Writing.{WritesFile}
 use Rattle.file_core.proofs.SetStands.{PutsKeep}
 use Rattle.file_core.proofs.StoreRows.{rows_counted}
 use Rattle.file_core.proofs.SetBlocks.{Lengths, put_lengths, put_records, behind, length-bytes_of, bytes-append}

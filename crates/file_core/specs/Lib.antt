@@ -1,11 +1,4 @@
-pub mod Held
 pub mod Stands
 pub mod Reads
-pub mod Lookup
+pub mod Layout
 pub mod Updates
-pub mod Setting
-pub mod StoreChanges
-pub mod Writing
-pub mod Deleting
-pub mod Batching
-pub mod BatchPuts

@@ -8,7 +8,7 @@ use Rattle.forest_model.specs.declared.call.Found.{Found}
 use Rattle.forest_model.specs.declared.call.Reply.TheVariants.{Document, Refused}
 use Rattle.forest_model.specs.declared.refusal.Refusal.{Refusal}
 use Rattle.forest_model.specs.declared.state.State.{State}
-use Rattle.file_core.specs.Held.{Held}
+use Rattle.file_parts.specs.Held.{Held}
 use Rattle.file_core.specs.Stands.{Stands}
 
 -- no memory, or a view that failed; of a file that isn't told also a block that isn't there or isn't well-formed

@@ -17,17 +17,13 @@ use Rattle.forest_model.specs.declared.documents.Doc.{Doc}
 use Rattle.forest_model.specs.declared.state.State.{State}
 use Rattle.forest_model.specs.declared.state.Store.{Store}
 use Rattle.forest_model.specs.declared.stored.Entry.{Entry}
-use Rattle.forest_model.specs.declared.stored.Rec.{Rec}
 use Rattle.wal_index.specs.Index.{Map as Entries, entry_at, has_number}
-use Rattle.file_core.specs.Held.{Held}
+use Rattle.file_documents.specs.Setting.{put_of}
+use Rattle.file_parts.specs.Held.{Held}
 
 -- a store's row in a table, with how many documents it has
 abbrev pub row_in : Map → Store → StoreRow
 row_in documents s = record { id = s.id; name = s.name; seq = s.seq; documents = count_of documents s.id }
-
--- the record that sets a key to a document
-abbrev pub put_of : DocKey → Doc → Rec
-put_of k d = record { kind = 1; store = k.store; seq = d.seq; key = k.key; meta = d.meta; body = d.body }
 
 -- A document, the entry of its key in memory, and its record at the entry's address, where the file is told.
 pub record IsKept (told : Bool) (revision : ℕ) (file : List Block) (tail : OpenBlock) (k : DocKey) (e : Entry) (d : Doc) : Type 0 where

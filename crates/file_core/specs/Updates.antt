@@ -1,6 +1,6 @@
 -- What an updating call of an open file answers and changes.
-use Rattle.std.specs.Prelude.{◌≡◌, ◌≢◌, ◌⊎◌, ◌≤◌, ℕ, Bool, IsTrue, List, length, map, Some, IfOk, IfErr, Result, Err}
-use Rattle.block_host.specs.Disk.{Disk, risen}
+use Rattle.std.specs.Prelude.{◌≡◌, ◌⊎◌, ◌≤◌, ℕ, Bool, IsTrue, List, length, map, Some, IfOk, IfErr, Result, Err}
+use Rattle.block_host.specs.Disk.{risen}
 use Rattle.block_host.specs.declared.block.Block.{Block}
 use Rattle.forest_model.specs.Blocks.{File, last_header}
 use Rattle.forest_model.specs.Run.{FileAfter, unflushed_from}
@@ -12,33 +12,16 @@ use Rattle.forest_model.specs.declared.call.Reply.{Reply}
 use Rattle.forest_model.specs.declared.call.Reply.TheVariants.{Refused, Committed}
 use Rattle.forest_model.specs.declared.refusal.Refusal.{Refusal}
 use Rattle.forest_model.specs.declared.state.State.{State}
-use Rattle.file_core.specs.Held.{Held, held}
-use Rattle.file_core.specs.declared.parts.Parts.{Parts}
+use Rattle.file_parts.specs.Held.{Held}
+use Rattle.file_parts.specs.Moment.{Moment}
 use Rattle.file_core.specs.Stands.{Stands}
 
 -- the bytes of a file's blocks
 abbrev pub bytes_of : List Block → File
 bytes_of = map (λ b. b.bytes)
 
--- What an open file is at a moment: what it has in memory, its host's disk, the blocks that its view shows, and the
--- counts of faults of both.
-pub record Moment : Type 1 where
-  pub held : Held
-  pub disk : Disk
-  pub file : List Block
-  pub host_faults : ℕ
-  pub view_faults : ℕ
-
-abbrev pub moment_of : {H V F : Type 0} → Disk → List Block → ℕ → ℕ → Parts H V F → Moment
-moment_of disk file host_faults view_faults p = record { held = held p; disk = disk; file = file; host_faults = host_faults; view_faults = view_faults }
-
 abbrev pub StandsAt : Bool → Moment → State → Type 0
 StandsAt told m s = Stands told m.held m.disk m.file s
-
--- other files and what was said stay
-pub record Aside (revision : ℕ) (old new : Disk) : Type 0 where
-  pub others : (other : ℕ) → other ≢ revision → new.files other ≡ old.files other
-  pub said : new.said ≡ old.said
 
 -- The blocks of the current file as the sequential store sees them: where the file is told, those that the view shows.
 -- The last header among them is the last commit's.

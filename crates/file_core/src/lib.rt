@@ -5,16 +5,10 @@
 //! and those that make and remove a store.
 #![tactic(auto)]
 
-mod batch_puts;
-mod batching;
-mod deleting;
-mod items;
-mod parts;
-mod reads;
-mod setting;
+mod reading;
 mod state;
 mod stores;
-mod writes;
+mod updating;
 
-pub use parts::Parts;
+pub use file_parts::Parts;
 pub use state::{FileState, Layout};

@@ -1,4 +1,4 @@
-use Rattle.file_core.specs.Updates.{moment_of}
+use Rattle.file_parts.specs.Moment.{moment_of}
 use Rattle.file_commit.proofs.Commits.{commits_as}
 use Rattle.file_commit.proofs.committing.commit.Goals as goal
 

@@ -1,6 +1,6 @@
 use Rattle.std.proofs.Common.{sym, ap, ◌∙◌}
 use Rattle.forest_model.specs.declared.stored.Header.{Header}
-use Rattle.file_core.specs.Held.{held}
+use Rattle.file_parts.specs.Held.{held}
 use Rattle.file_commit.specs.Committing.{header_after}
 use Rattle.file_commit.proofs.Padded.{opened, padded_number, entered, tells_of}
 use Rattle.file_commit.proofs.committing.commit_new.Goals as goal

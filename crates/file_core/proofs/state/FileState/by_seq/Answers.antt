@@ -1,5 +1,5 @@
 use Rattle.std.proofs.Common.{◌≡◌, Err, rules}
-use Rattle.file_core.specs.Held.{held}
+use Rattle.file_parts.specs.Held.{held}
 use Rattle.file_core.proofs.Answering.{number_refused_as, number_found_as}
 use Rattle.file_core.proofs.state.FileState.by_seq.Goals as goal
 

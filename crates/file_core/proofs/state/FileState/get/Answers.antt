@@ -1,5 +1,5 @@
 use Rattle.std.proofs.Common.{◌≡◌, Err, rules}
-use Rattle.file_core.specs.Held.{held}
+use Rattle.file_parts.specs.Held.{held}
 use Rattle.file_core.proofs.Answering.{key_refused, key_found}
 use Rattle.file_core.proofs.state.FileState.get.Goals as goal
 

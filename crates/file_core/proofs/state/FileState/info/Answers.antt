@@ -1,7 +1,7 @@
 use Rattle.std.proofs.Common.{sym, subst}
 use Rattle.forest_model.specs.Step.{step_with_room}
 use Rattle.forest_model.specs.declared.call.Call.TheVariants as Call
-use Rattle.file_core.specs.Held.{held}
+use Rattle.file_parts.specs.Held.{held}
 use Rattle.file_core.proofs.Standing.{InfoAnswers, info_answers, answered_ok, answered_err}
 use Rattle.file_core.proofs.state.FileState.info.Goals as goal
 

@@ -1,0 +1,94 @@
+ghost use Rattle.std.specs.Prelude.{◌≡◌, ◌≢◌, ◌≤◌, ℕ, List, IsTrue, IfOk, IfErr, Some, Err};
+ghost use Rattle.doc_stream.specs.Causes.{BreaksRecord};
+ghost use Rattle.file_core.specs.Reads.{ReadsFrom};
+ghost use Rattle.file_core.specs.Stands.{Stands};
+ghost use Rattle.file_parts.specs.Held.{held};
+ghost use Rattle.file_parts.specs.Lookup.{FindsRecord, IsNumbered};
+ghost use Rattle.forest_model.specs.Step.{step_with_room};
+ghost use Rattle.forest_model.specs.declared.call.Call.TheVariants as Call;
+ghost use Rattle.forest_model.specs.declared.call.Reply.TheVariants as Reply;
+ghost use Rattle.forest_model.specs.declared.refusal.Refusal.TheVariants as Refusal;
+ghost use Rattle.forest_model.specs.declared.state.State.{State};
+ghost use Rattle.forest_model.specs.declared.stored.Entry.{Entry};
+ghost use Rattle.wal_index.specs.Index.{entry_at};
+
+use crate::FileState;
+use block_host::Host;
+use file_parts::{entry_of_key, entry_of_number, find_record, info_of};
+use forest_model::{Entry, Found, Info, Refusal, StoreRef};
+
+impl<H: Host> FileState<H> {
+    /// The document of a key.
+    pub fn get(&mut self, at: &StoreRef, key: &[u8]) -> Result<Found, Refusal>
+        ensures reads { ReadsFrom H.tells (held self.old.parts) (H.disk self.old.parts.host)
+            (H.View.content self.old.parts.view) (H.View.faults self.old.parts.view) (H.View.faults self.new.parts.view)
+            (Call.Get at.now key.now) result }
+        ensures stopped { (faults : ℕ) → self.old.parts.stopped ≡ Some faults → result ≡ Err (Refusal.Stopped faults) }
+        ensures damaged { (block : ℕ) → result ≡ Err (Refusal.Damaged self.old.parts.revision block) → IsTrue H.tells
+            → (e : Entry) × (entry_at self.old.parts.wal.entries at.now.store key.now ≡ Some e)
+            × BreaksRecord self.old.parts.revision (H.View.content self.old.parts.view) self.old.parts.tail e.address block }
+        ensures held { held self.new.parts ≡ held self.old.parts }
+        ensures host { self.new.parts.host ≡ self.old.parts.host }
+        ensures content { IsTrue H.tells → H.View.content self.new.parts.view ≡ H.View.content self.old.parts.view }
+        ensures counts { H.View.faults self.old.parts.view ≤ H.View.faults self.new.parts.view }
+        ensures untroubled { result ≢ Err Refusal.DiskFault → H.View.faults self.new.parts.view ≡ H.View.faults self.old.parts.view }
+    {
+        let entry = entry_of_key(&self.parts, at, key)?;
+        self.document(entry)
+    }
+
+    /// The document of a store's number.
+    pub fn by_seq(&mut self, at: &StoreRef, seq: u64) -> Result<Found, Refusal>
+        ensures reads { ReadsFrom H.tells (held self.old.parts) (H.disk self.old.parts.host)
+            (H.View.content self.old.parts.view) (H.View.faults self.old.parts.view) (H.View.faults self.new.parts.view)
+            (Call.BySeq at.now seq) result }
+        ensures stopped { (faults : ℕ) → self.old.parts.stopped ≡ Some faults → result ≡ Err (Refusal.Stopped faults) }
+        ensures damaged { (block : ℕ) → result ≡ Err (Refusal.Damaged self.old.parts.revision block) → IsTrue H.tells
+            → (key : List ℕ) × (e : Entry) × IsNumbered self.old.parts.wal.entries at.now.store seq key e
+            × BreaksRecord self.old.parts.revision (H.View.content self.old.parts.view) self.old.parts.tail e.address block }
+        ensures held { held self.new.parts ≡ held self.old.parts }
+        ensures host { self.new.parts.host ≡ self.old.parts.host }
+        ensures content { IsTrue H.tells → H.View.content self.new.parts.view ≡ H.View.content self.old.parts.view }
+        ensures counts { H.View.faults self.old.parts.view ≤ H.View.faults self.new.parts.view }
+        ensures untroubled { result ≢ Err Refusal.DiskFault → H.View.faults self.new.parts.view ≡ H.View.faults self.old.parts.view }
+    {
+        let entry = entry_of_number(&self.parts, at, seq)?;
+        self.document(entry)
+    }
+
+    // The document of an entry.
+    fn document(&mut self, entry: Entry) -> Result<Found, Refusal>
+        ensures finds { FindsRecord H.View.tells self.old.parts.revision (H.View.content self.old.parts.view) self.old.parts.tail
+            entry (H.View.faults self.old.parts.view) (H.View.faults self.new.parts.view) result }
+        ensures held { held self.new.parts ≡ held self.old.parts }
+        ensures host { self.new.parts.host ≡ self.old.parts.host }
+        ensures content { IsTrue H.View.tells → H.View.content self.new.parts.view ≡ H.View.content self.old.parts.view }
+        ensures counts { H.View.faults self.old.parts.view ≤ H.View.faults self.new.parts.view }
+        ensures untroubled { result ≢ Err Refusal.DiskFault → H.View.faults self.new.parts.view ≡ H.View.faults self.old.parts.view }
+    {
+        let parts = &mut self.parts;
+        find_record(
+            self.alloc,
+            &mut parts.view,
+            &parts.tail,
+            parts.revision,
+            entry,
+        )
+    }
+
+    /// What a store and the file are at.
+    pub fn info(&mut self, at: &StoreRef) -> Result<Info, Refusal>
+        ensures told { (s : State)
+            → Stands H.tells (held self.old.parts) (H.disk self.old.parts.host) (H.View.content self.old.parts.view) s
+            → IfOk result (λ info. step_with_room s (Call.Info at.now) ≡ (Reply.InfoIs info, s)) }
+        ensures refused { (s : State)
+            → Stands H.tells (held self.old.parts) (H.disk self.old.parts.host) (H.View.content self.old.parts.view) s
+            → IfErr result (λ why. step_with_room s (Call.Info at.now) ≡ (Reply.Refused why, s)) }
+        ensures stopped { (faults : ℕ) → self.old.parts.stopped ≡ Some faults → result ≡ Err (Refusal.Stopped faults) }
+        ensures held { held self.new.parts ≡ held self.old.parts }
+        ensures host { self.new.parts.host ≡ self.old.parts.host }
+        ensures view { self.new.parts.view ≡ self.old.parts.view }
+    {
+        info_of(&self.parts, at)
+    }
+}

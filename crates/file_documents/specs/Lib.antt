@@ -1,0 +1,5 @@
+pub mod Setting
+pub mod Writing
+pub mod Deleting
+pub mod Batching
+pub mod BatchPuts

@@ -1,0 +1,289 @@
+ghost use Rattle.std.specs.Prelude.{◌≡◌, ◌≢◌, ◌⊎◌, ◌≤◌, ◌<◌, ◌+◌, ◌^◌, [], length, List, IsTrue, true, false, is_some, Some, None, Ok, Err, IfOk, OnOk, OnErr};
+ghost use Rattle.std.specs.FinMap as finite;
+ghost use Rattle.std.specs.Result.{result_err};
+ghost use Rattle.doc_stream.specs.OpenBlock.{PutsBytes, address_of};
+ghost use Rattle.doc_stream.specs.Records.{is_record, record_bytes};
+ghost use Rattle.forest_model.specs.Documents.{key_at};
+ghost use Rattle.forest_model.specs.Limits as limits;
+ghost use Rattle.forest_model.specs.Step.{first_cause, record_length};
+ghost use Rattle.forest_model.specs.declared.refusal.Refusal.TheVariants as Refusal;
+ghost use Rattle.kvs_names.specs.Table.{row_with_id, counted};
+ghost use Rattle.file_parts.specs.Held.{held};
+ghost use Rattle.file_parts.specs.Causes.{seq_in, documents_in};
+ghost use Rattle.file_documents.specs.Setting.{documents_after, live_after, set_causes, SetGives, SetAnswers};
+ghost use Rattle.file_parts.specs.Moment.{Aside, moment_of};
+
+use block_host::{Block, Failed, Host};
+use doc_stream::Tail;
+use file_parts::{MOST_BLOCKS, Parts, grow, is_full, is_next_worn, is_wrong_key};
+use forest_model::{Bytes, Entry, Rec, Refusal, StoreRef};
+use std::alloc::Global;
+use wal_index::{Room, WalIndex};
+
+/// Sets a key of a file that hasn't stopped, and answers the number that its document draws. Refused are a reference for
+/// reading, a key that hasn't 1 to 3,500 bytes, more than 255 bytes of meta or 1,048,576 of body, a store that isn't there, a
+/// worn number and a full file, in this order; then want of memory, and a host that fails, which stops the file.
+pub fn set<H: Host>(
+    alloc: Global,
+    parts: &mut Parts<H>,
+    at: &StoreRef,
+    key: &[u8],
+    meta: &[u8],
+    body: &[u8],
+) -> Result<u64, Refusal>
+    ensures answers { SetAnswers H.tells at.now key.now meta.now body.now
+        (moment_of (H.disk parts.old.host) (H.View.content parts.old.view) (H.faults parts.old.host) (H.View.faults parts.old.view) parts.old)
+        (moment_of (H.disk parts.new.host) (H.View.content parts.new.view) (H.faults parts.new.host) (H.View.faults parts.new.view) parts.new)
+        result }
+    ensures aside { IsTrue H.tells → Aside parts.old.revision (H.disk parts.old.host) (H.disk parts.new.host) }
+    ensures halts { result ≡ Err Refusal.DiskFault → parts.new.stopped ≡ Some (H.faults parts.new.host) }
+    ensures clock { (H.disk parts.old.host).moment ≤ (H.disk parts.new.host).moment }
+    ensures counts { H.faults parts.old.host ≤ H.faults parts.new.host }
+    ensures untroubled { result ≢ Err Refusal.DiskFault → H.faults parts.new.host ≡ H.faults parts.old.host }
+    ensures view_count { H.View.faults parts.new.view ≡ H.View.faults parts.old.view }
+    ensures opened { parts.new.opened ≡ parts.old.opened }
+    ensures damaged { parts.new.damaged ≡ parts.old.damaged }
+{
+    let numbers = may_set(parts, at, key, meta, body)?;
+    set_free(alloc, parts, at, numbers, key, meta, body)
+}
+
+// The number of a store and its count of documents, where a key of it may be set.
+fn may_set<H: Host>(
+    parts: &Parts<H>,
+    at: &StoreRef,
+    key: &[u8],
+    meta: &[u8],
+    body: &[u8],
+) -> Result<(u64, u64), Refusal>
+    ensures refused { result_err result ≡ first_cause (set_causes (held parts.now) at.now key.now meta.now body.now) }
+    ensures seq { IfOk result (λ n. n.0 ≡ seq_in parts.now.names.rows at.now.store) }
+    ensures documents { IfOk result (λ n. n.1 ≡ documents_in parts.now.names.rows at.now.store) }
+    ensures no_fault { result ≢ Err Refusal.DiskFault }
+{
+    if at.read_only {
+        return Err(Refusal::ReadOnly);
+    }
+    if is_wrong_key(key) {
+        return Err(Refusal::KeyLength);
+    }
+    if is_wrong_body(meta, body) {
+        return Err(Refusal::BodyLength);
+    }
+    let Some((seq, documents)) = parts.names.numbers(at.store) else {
+        return Err(Refusal::NoStore);
+    };
+    if is_next_worn(seq) || is_next_worn(parts.place) {
+        return Err(Refusal::Worn);
+    }
+    let needed = parts.tail.needed(record_len(key, meta, body));
+    if is_full(parts.blocks, needed, parts.limits.max_blocks) {
+        return Err(Refusal::FileFull {
+            used: parts.blocks,
+            needed,
+            max: parts.limits.max_blocks,
+        });
+    }
+    Ok((seq, documents))
+}
+
+pub(crate) fn is_wrong_body(meta: &[u8], body: &[u8]) -> bool
+    ensures { result ≡ limits.is_wrong_body meta.now body.now }
+{
+    meta.len() > 255 || body.len() > 1_048_576
+}
+
+// How many bytes a record has.
+pub(crate) fn record_len(key: &[u8], meta: &[u8], body: &[u8]) -> u64
+    requires key { limits.is_wrong_key key.now ≡ false }
+    requires body { limits.is_wrong_body meta.now body.now ≡ false }
+    ensures value { result ≡ record_length key.now meta.now body.now }
+    ensures small { result ≤ 2 ^ 21 }
+{
+    24 + key.len() as u64 + meta.len() as u64 + body.len() as u64
+}
+
+// Sets a key where nothing is against it.
+fn set_free<H: Host>(
+    alloc: Global,
+    parts: &mut Parts<H>,
+    at: &StoreRef,
+    numbers: (u64, u64),
+    key: &[u8],
+    meta: &[u8],
+    body: &[u8],
+) -> Result<u64, Refusal>
+    requires free { first_cause (set_causes (held parts.old) at.now key.now meta.now body.now) ≡ None }
+    requires seq { numbers.0 ≡ seq_in parts.old.names.rows at.now.store }
+    requires documents { numbers.1 ≡ documents_in parts.old.names.rows at.now.store }
+    ensures gives { SetGives H.tells at.now key.now meta.now body.now
+        (moment_of (H.disk parts.old.host) (H.View.content parts.old.view) (H.faults parts.old.host) (H.View.faults parts.old.view) parts.old)
+        (moment_of (H.disk parts.new.host) (H.View.content parts.new.view) (H.faults parts.new.host) (H.View.faults parts.new.view) parts.new)
+        result }
+    ensures aside { IsTrue H.tells → Aside parts.old.revision (H.disk parts.old.host) (H.disk parts.new.host) }
+    ensures halts { result ≡ Err Refusal.DiskFault → parts.new.stopped ≡ Some (H.faults parts.new.host) }
+    ensures clock { (H.disk parts.old.host).moment ≤ (H.disk parts.new.host).moment }
+    ensures counts { H.faults parts.old.host ≤ H.faults parts.new.host }
+    ensures untroubled { result ≢ Err Refusal.DiskFault → H.faults parts.new.host ≡ H.faults parts.old.host }
+    ensures view_count { H.View.faults parts.new.view ≡ H.View.faults parts.old.view }
+    ensures opened { parts.new.opened ≡ parts.old.opened }
+    ensures damaged { parts.new.damaged ≡ parts.old.damaged }
+{
+    let seq = numbers.0 + 1;
+    let len = record_len(key, meta, body);
+    let rec = record_of(alloc, 1, at.store, seq, key, meta, body)?;
+    let Taken { room, out, address } = take(
+        alloc,
+        &mut parts.tail,
+        &mut parts.wal,
+        parts.revision,
+        rec,
+        len,
+    )?;
+    let entry = Entry {
+        seq,
+        address,
+        live: true,
+        len,
+    };
+    match grow(
+        &mut parts.host,
+        &mut parts.view,
+        parts.revision,
+        out.as_slice(),
+    ) {
+        Ok(()) => {
+            enter(parts, at.store, key, room, entry, numbers.1);
+            Ok(seq)
+        }
+        Err(Failed) => {
+            parts.stopped = Some(parts.host.faults());
+            Err(Refusal::DiskFault)
+        }
+    }
+}
+
+// The record that sets a key, or deletes one.
+pub(crate) fn record_of(
+    alloc: Global,
+    kind: u8,
+    store: u64,
+    seq: u64,
+    key: &[u8],
+    meta: &[u8],
+    body: &[u8],
+) -> Result<Rec, Refusal>
+    ensures record { IfOk result (λ rec. rec ≡ record { kind = kind; store = store; seq = seq; key = key.now; meta = meta.now; body = body.now }) }
+    ensures memory { OnErr result (result ≡ Err Refusal.NoMemory) }
+{
+    Ok(Rec {
+        kind,
+        store,
+        seq,
+        key: Bytes::copy_of(alloc, key)?,
+        meta: Bytes::copy_of(alloc, meta)?,
+        body: Bytes::copy_of(alloc, body)?,
+    })
+}
+
+// What a record was put with: the memory of its entry, the blocks that filled, and its address.
+#[derive(Drop)]
+pub(crate) struct Taken {
+    pub(crate) room: Room,
+    pub(crate) out: Vec<Block>,
+    pub(crate) address: u64,
+}
+
+// Takes the memory for a record's entry and for the blocks that fill, and puts the record.
+pub(crate) fn take(
+    alloc: Global,
+    tail: &mut Tail,
+    wal: &mut WalIndex,
+    revision: u64,
+    rec: Rec,
+    len: u64,
+) -> Result<Taken, Refusal>
+    requires is_record { IsTrue (is_record rec) }
+    requires len { len ≡ length (record_bytes rec) }
+    requires small { len ≤ 2 ^ 21 }
+    ensures room { IfOk result (λ taken. taken.room ≡ rec.key) }
+    ensures address { IfOk result (λ taken. taken.address ≡ address_of tail.old.number (length tail.old.bytes)) }
+    ensures put { IfOk result (λ taken. PutsBytes revision (record_bytes rec) tail.old tail.new [] taken.out.items) }
+    ensures is_record { OnOk result (IsTrue (is_record rec)) }
+    ensures one { OnOk result (1 ≤ wal.new.room) }
+    ensures entries { wal.new.entries ≡ wal.old.entries }
+    ensures memory { OnErr result ((result ≡ Err Refusal.NoMemory) ⊎ (2 ^ 32 < tail.old.number)) }
+    ensures no_fault { result ≢ Err Refusal.DiskFault }
+    ensures kept { OnErr result (tail.new ≡ tail.old) }
+{
+    if tail.number() > MOST_BLOCKS {
+        return Err(Refusal::FileFull {
+            used: tail.number(),
+            needed: tail.needed(len),
+            max: MOST_BLOCKS,
+        });
+    }
+    let room = wal.room(rec.key.as_slice(), 1)?;
+    let mut out = Vec::new(alloc);
+    let address = tail.put(&rec, revision, &mut out)?;
+    Ok(Taken { room, out, address })
+}
+
+// Makes a document whose record was put known to the index, the table and the counts.
+fn enter<H: Host>(
+    parts: &mut Parts<H>,
+    store: u64,
+    key: &[u8],
+    room: Room,
+    entry: Entry,
+    documents: u64,
+)
+    requires there { is_some (row_with_id parts.old.names.rows store) ≡ true }
+    requires key { room ≡ key.now }
+    requires room { 1 ≤ parts.old.wal.room }
+    requires place { parts.old.place + 1 < 2 ^ 62 }
+    ensures entries { parts.new.wal.entries ≡ finite.insert parts.old.wal.entries (key_at store key.now) entry }
+    ensures rest { held parts.new ≡ record (held parts.old) {
+      blocks = parts.old.tail.number;
+      names = counted parts.old.names store entry.seq (documents_after (finite.get parts.old.wal.entries (key_at store key.now)) documents);
+      wal = parts.new.wal;
+      loose = length parts.old.tail.bytes;
+      live = live_after (finite.get parts.old.wal.entries (key_at store key.now)) parts.old.live entry.len;
+      place = parts.old.place + 1;
+    } }
+    ensures host { parts.new.host ≡ parts.old.host }
+    ensures view { parts.new.view ≡ parts.old.view }
+    ensures opened { parts.new.opened ≡ parts.old.opened }
+    ensures damaged { parts.new.damaged ≡ parts.old.damaged }
+{
+    let older = parts.wal.get(store, key);
+    parts.live = live_with(older, parts.live, entry.len);
+    parts
+        .names
+        .count(store, entry.seq, documents_with(older, documents));
+    parts.wal.put(store, room, entry);
+    parts.blocks = parts.tail.number();
+    parts.loose = parts.tail.address() % 4096;
+    parts.place += 1;
+}
+
+// The bytes of live records, once a key with this older entry has a record of so many bytes.
+pub(crate) fn live_with(older: Option<Entry>, live: u64, len: u64) -> u64
+    ensures { result ≡ live_after older live len }
+{
+    let gone = match older {
+        Some(entry) if entry.live => entry.len,
+        _ => 0,
+    };
+    live.saturating_sub(gone).saturating_add(len)
+}
+
+// The count of documents of a store, once a key with this older entry has a document.
+pub(crate) fn documents_with(older: Option<Entry>, documents: u64) -> u64
+    ensures { result ≡ documents_after older documents }
+{
+    match older {
+        Some(entry) if entry.live => documents,
+        _ => documents.saturating_add(1),
+    }
+}

@@ -1,0 +1,4 @@
+pub mod Held
+pub mod Moment
+pub mod Lookup
+pub mod Causes
