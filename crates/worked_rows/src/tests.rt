@@ -1,26 +1,27 @@
 mod long;
 mod reader;
-mod session;
-mod snapshot;
 mod tables;
 mod writer;
 
 use forest_model::{Bytes, Sequence, Store};
 use forest_oracle::Oracle;
-use session::Session;
+use plain_session::PlainSession;
 use std::alloc::Global;
 use std::test::*;
 
 // What a session tells for a line.
-fn told(alloc: Global, session: &mut Session, line: &str) -> Result<String, Fail> {
+fn told(alloc: Global, session: &mut PlainSession, line: &str) -> Result<String, Fail> {
     let line = reader::line_of(alloc, line)?;
-    writer::told_text(alloc, &session.tell(line)?)
+    if line.lane >= 16 {
+        return Err(Fail::new("no lane"));
+    }
+    writer::told_text(alloc, &session.tell(line)?.ok_or("nothing is told")?)
 }
 
 // The first row that a session tells otherwise, with what it tells.
 fn first_wrong(
     alloc: Global,
-    session: &mut Session,
+    session: &mut PlainSession,
     rows: &[(&str, &str)],
 ) -> Result<Option<String>, Fail> {
     for (line, reply) in rows {
@@ -33,7 +34,7 @@ fn first_wrong(
 }
 
 // Makes stores until there are 64.
-fn most_stores(alloc: Global, session: &mut Session) -> Result<Option<String>, Fail> {
+fn most_stores(alloc: Global, session: &mut PlainSession) -> Result<Option<String>, Fail> {
     for id in 1..=63 {
         let line = format!(in alloc; "0 use s{id}")?;
         let reply = format!(in alloc; "0 {id} using {id}")?;
@@ -62,7 +63,7 @@ fn almost_worn(alloc: Global) -> Result<Oracle, Fail> {
 // The first row of a theme that a new store tells otherwise.
 fn first_wrong_theme(alloc: Global) -> Result<Option<String>, Fail> {
     for rows in tables::THEMES {
-        let mut session = Session::new(alloc, Oracle::new(alloc)?)?;
+        let mut session = PlainSession::new(alloc, Oracle::new(alloc)?)?;
         let wrong = first_wrong(alloc, &mut session, rows)?;
         if wrong.is_some() {
             return Ok(wrong);
@@ -73,12 +74,12 @@ fn first_wrong_theme(alloc: Global) -> Result<Option<String>, Fail> {
 
 // The first row that is told otherwise at the ends of stores and numbers.
 fn first_wrong_end(alloc: Global) -> Result<Option<String>, Fail> {
-    let mut session = Session::new(alloc, Oracle::new(alloc)?)?;
+    let mut session = PlainSession::new(alloc, Oracle::new(alloc)?)?;
     let wrong = most_stores(alloc, &mut session)?;
     if wrong.is_some() {
         return Ok(wrong);
     }
-    let mut session = Session::new(alloc, almost_worn(alloc)?)?;
+    let mut session = PlainSession::new(alloc, almost_worn(alloc)?)?;
     first_wrong(alloc, &mut session, tables::WORN_NUMBER)
 }
 
