@@ -6,7 +6,7 @@ use Rattle.std.proofs.lemmas.Bool.{false≢true}
 use Rattle.block_host.specs.Disk.{Image}
 use Rattle.block_host.specs.Sealed.{IsSealed, sealed_front, with_checksum, padded, zeros}
 use Rattle.block_host.specs.declared.block.Block.{Block}
-use Rattle.file_core.specs.Held.{Held}
+use Rattle.file_parts.specs.Held.{Held}
 use Rattle.file_core.specs.Updates.{IsFile, bytes_of}
 use Rattle.file_image.specs.NewStore.{IsNewStore, new_header}
 use Rattle.file_open.specs.Opened.{new_held}

@@ -9,7 +9,7 @@ use Rattle.std.proofs.lemmas.Bool.{false≢true}
 use Rattle.block_host.specs.Disk.{Disk}
 use Rattle.block_host.specs.declared.block.Block.{Block}
 use Rattle.doc_stream.specs.OpenBlock.{OpenBlock}
-use Rattle.file_core.specs.Held.{Held}
+use Rattle.file_parts.specs.Held.{Held}
 use Rattle.file_core.specs.Stands.{Stands, AreDocuments, DrawNumbers, HasDocument, SameAtSameNumber}
 use Rattle.file_image.specs.Commits.{live_of, live_bytes}
 use Rattle.file_image.specs.NewStore.{default_row}

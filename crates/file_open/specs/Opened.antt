@@ -2,7 +2,7 @@
 use Rattle.std.specs.Prelude.{[], ◌∷◌, false, None}
 use Rattle.forest_model.specs.declared.call.Limits.{Limits}
 use Rattle.wal_index.specs.Index.{nothing}
-use Rattle.file_core.specs.Held.{Held}
+use Rattle.file_parts.specs.Held.{Held}
 use Rattle.file_image.specs.NewStore.{default_row, new_header}
 
 abbrev pub new_held : Limits → Held

@@ -1,8 +1,9 @@
 ghost use Rattle.std.specs.Prelude.{◌≡◌, ◌⊎◌, ◌^◌, ◌≤◌, [], IsTrue, IfOk, IfErr, None};
 ghost use Rattle.block_host.specs.Calls.{Reads};
 ghost use Rattle.block_host.specs.Disk.{risen};
-ghost use Rattle.file_core.specs.Held.{held};
-ghost use Rattle.file_core.specs.Updates.{StandsAt, IsFile, moment_of};
+ghost use Rattle.file_parts.specs.Held.{held};
+ghost use Rattle.file_core.specs.Updates.{StandsAt, IsFile};
+ghost use Rattle.file_parts.specs.Moment.{moment_of};
 ghost use Rattle.file_image.specs.NewStore.{IsNewStore};
 ghost use Rattle.file_open.specs.Opened.{new_held};
 ghost use Rattle.forest_model.specs.Blocks.{File};

@@ -1,9 +1,10 @@
 -- What an open file's calls answer, as the lines of a lane tell it.
 use Rattle.std.proofs.Common.{◌≡◌, ℕ, ◌≤◌, Bool, refl, sym, ap, subst, ◌∙◌, arith, inl, inr}
 use Rattle.std.specs.Prelude.{◌≢◌, ◌⊎◌, IsTrue, Some, Result, Ok, Err, IfOk, IfErr, OnOk}
-use Rattle.file_core.specs.Held.{Held}
+use Rattle.file_parts.specs.Held.{Held}
 use Rattle.file_core.specs.Reads.{ReadsAs, ReadFails}
-use Rattle.file_core.specs.Updates.{Moment, StandsAt, IsFile, Troubled, UpdatesAs, CommitsAs}
+use Rattle.file_parts.specs.Moment.{Moment}
+use Rattle.file_core.specs.Updates.{StandsAt, IsFile, Troubled, UpdatesAs, CommitsAs}
 use Rattle.forest_model.specs.Blocks.{File}
 use Rattle.forest_model.specs.Run.{FileAfter}
 use Rattle.forest_model.specs.Session.{said_of}

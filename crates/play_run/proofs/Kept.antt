@@ -5,7 +5,7 @@ use Rattle.std.specs.FinMap as finite
 use Rattle.std.proofs.lemmas.Bool.{false≢true}
 use Rattle.block_host.specs.Disk.{Disk, Image}
 use Rattle.block_host.specs.declared.block.Block.{Block}
-use Rattle.file_core.specs.Held.{Held}
+use Rattle.file_parts.specs.Held.{Held}
 use Rattle.file_core.specs.Stands.{Stands, AreDocuments, HasDocument, IsKept}
 use Rattle.file_core.specs.Updates.{IsFile, bytes_of}
 use Rattle.forest_model.specs.Blocks.{File}

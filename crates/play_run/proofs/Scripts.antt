@@ -4,7 +4,7 @@ use Rattle.std.specs.Prelude.{IsTrue}
 use Rattle.block_host.specs.Calls.{Reads}
 use Rattle.block_host.specs.Disk.{Disk, Image}
 use Rattle.block_host.specs.declared.block.Block.{Block}
-use Rattle.file_core.specs.Held.{held}
+use Rattle.file_parts.specs.Held.{held}
 use Rattle.file_core.specs.Updates.{bytes_of}
 use Rattle.file_core.specs.declared.state.FileState.{FileState}
 use Rattle.forest_model.specs.Blocks.{File}

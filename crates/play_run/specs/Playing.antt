@@ -2,10 +2,10 @@
 use Rattle.std.specs.Prelude.{◌≡◌, ◌<◌, ℕ, Bool, IsTrue, List, Option, Some, None, slice_get}
 use Rattle.block_host.specs.Disk.{Disk}
 use Rattle.block_host.specs.declared.block.Block.{Block}
-use Rattle.file_core.specs.Held.{Held, held}
+use Rattle.file_parts.specs.Held.{Held, held}
 use Rattle.file_core.specs.Stands.{Stands}
 use Rattle.file_core.specs.Updates.{IsFile}
-use Rattle.file_core.specs.declared.parts.Parts.{Parts}
+use Rattle.file_parts.specs.declared.parts.Parts.{Parts}
 use Rattle.forest_model.specs.Blocks.{File}
 use Rattle.forest_model.specs.Run.{FileAfter, call_in}
 use Rattle.forest_model.specs.Session.{Session, Tells, call_of, said_of}

@@ -1,7 +1,7 @@
 use Rattle.std.proofs.Common.{sym, ap, ◌∙◌}
 use Rattle.std.specs.Prelude.{IsTrue}
 use Rattle.block_host.specs.Disk.{Image}
-use Rattle.file_core.specs.Held.{held}
+use Rattle.file_parts.specs.Held.{held}
 use Rattle.file_open.proofs.NewState.{stands_by}
 use Rattle.file_open.proofs.NewFile.{file_by, one_block}
 use Rattle.file_open.proofs.new_store.open_new.Goals as goal

@@ -1,5 +1,5 @@
 use Rattle.std.proofs.Common.{ap}
-use Rattle.file_core.specs.Held.{Held}
+use Rattle.file_parts.specs.Held.{Held}
 use Rattle.forest_model.specs.State.{new_state, usual_limits}
 use Rattle.play_run.specs.Seen.{seen}
 use Rattle.play_run.proofs.Counts.{rose_closed, not_both}

@@ -1,5 +1,5 @@
 use Rattle.std.proofs.Common.{refl, sym, ap, Some}
-use Rattle.file_core.specs.Updates.{moment_of}
+use Rattle.file_parts.specs.Moment.{moment_of}
 use Rattle.forest_model.specs.declared.call.Call.TheVariants as calls
 use Rattle.forest_model.specs.declared.line.Said.TheVariants as says
 use Rattle.forest_model.specs.declared.line.Verb.TheVariants as verbs
