@@ -15,6 +15,10 @@ mod stores;
 mod tables;
 mod writes;
 
+pub use limits::is_wrong_key;
+pub use reads::{found_of, ticket_of};
+pub use tables::{commit_at, copy_of_stores, doc_at, store_of};
+
 /// The sequential store over ordered maps: slow and plain.
 #[derive(Drop)]
 pub struct Oracle {

@@ -2,7 +2,6 @@ ghost use Rattle.std.specs.Prelude.{◌≡◌, ℕ, Option, Some, None, IfOk, On
 ghost use Rattle.std.specs.Option.{option_map};
 ghost use Rattle.forest_model.specs.Session.{Session};
 ghost use Rattle.forest_model.specs.Session as sessions;
-ghost use Rattle.forest_model.specs.Step.{ticket_of};
 ghost use Rattle.forest_model.specs.declared.call.Reply.TheVariants as Reply;
 ghost use Rattle.forest_model.specs.declared.line.Line.{Line};
 ghost use Rattle.forest_model.specs.declared.line.Verb.{Verb};
@@ -11,6 +10,7 @@ ghost use Rattle.plain_session.specs.Plain.{lane_shown, copier_shown, snapshot_s
 
 use crate::snapshot::{Snapshot, not_shown};
 use forest_model::{Refusal, Reply, Said, State, StoreRef, Verb};
+use forest_oracle::ticket_of;
 use std::alloc::{AllocError, Global};
 
 /// What a lane is at: its store, the place that it printed last, and its snapshot.
@@ -103,15 +103,6 @@ pub(crate) fn copier_after(copier: Option<Copier>, reply: &Reply, state: &State)
         }),
         Reply::Switched { .. } | Reply::Cancelled => None,
         _ => copier,
-    }
-}
-
-fn ticket_of(state: &State) -> u64
-    ensures { result ≡ ticket_of state.now }
-{
-    match state.copying {
-        Some(copying) => copying.ticket,
-        None => 0,
     }
 }
 

@@ -11,6 +11,5 @@ mod lane;
 mod lists;
 mod session;
 mod snapshot;
-mod tables;
 
 pub use session::PlainSession;

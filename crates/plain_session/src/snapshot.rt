@@ -1,6 +1,5 @@
 ghost use Rattle.std.specs.Prelude.{◌≡◌, is_none, IfOk, OnErr};
 ghost use Rattle.std.specs.Option.{option_map};
-ghost use Rattle.forest_model.specs.Limits as limits;
 ghost use Rattle.forest_model.specs.Session as sessions;
 ghost use Rattle.forest_model.specs.Stores.{store_of};
 ghost use Rattle.forest_model.specs.declared.call.Reply.TheVariants as Reply;
@@ -10,10 +9,10 @@ ghost use Rattle.plain_session.specs.Calls.{opened_by};
 ghost use Rattle.plain_session.specs.Plain.{snapshot_shown};
 
 use crate::lists::{by_key, by_seq};
-use crate::tables::{commit_at, copy_of_stores, doc_at, found_of, store_of};
 use forest_model::{
     Bytes, Call, Commit, Documents, Refusal, Reply, Said, State, StoreList, StoreRef, Verb,
 };
+use forest_oracle::{commit_at, copy_of_stores, doc_at, found_of, is_wrong_key, store_of};
 use std::alloc::{AllocError, Global};
 
 /// What a lane's snapshot shows for good, with the place at which it was taken and its last commit.
@@ -23,12 +22,6 @@ pub(crate) struct Snapshot {
     pub(crate) stores: StoreList,
     pub(crate) documents: Documents,
     pub(crate) commit: u64,
-}
-
-fn is_wrong_key(key: &Bytes) -> bool
-    ensures { result ≡ limits.is_wrong_key key.now }
-{
-    key.is_empty() || key.len() > 3500
 }
 
 fn refused(why: Refusal) -> Said

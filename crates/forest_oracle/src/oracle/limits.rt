@@ -6,7 +6,8 @@ use forest_model::{Bytes, Item, Items};
 
 const FIRST_WORN: u64 = 0x3fff_ffff_ffff_ffff;
 
-pub(super) fn is_wrong_key(key: &Bytes) -> bool
+/// Whether a key hasn't 1 to 3,500 bytes.
+pub fn is_wrong_key(key: &Bytes) -> bool
     ensures { result ≡ limits.is_wrong_key key.now }
 {
     key.is_empty() || key.len() > 3500

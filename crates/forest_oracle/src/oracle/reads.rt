@@ -8,7 +8,8 @@ use super::tables::{any_has_seq, doc_at, seq_of, store_of};
 use forest_model::{Bytes, Doc, Found, Info, Numbers, Refusal, Reply, Sequence, State, StoreRef};
 use std::alloc::{AllocError, Global};
 
-fn found_of(key: &Bytes, doc: &Doc) -> Result<Found, AllocError>
+/// A document as it is found at its key. An `Err` is want of memory.
+pub fn found_of(key: &Bytes, doc: &Doc) -> Result<Found, AllocError>
     ensures { IfOk result (λ found. found ≡ found_of key.now doc.now) }
 {
     Ok(Found {
@@ -19,7 +20,8 @@ fn found_of(key: &Bytes, doc: &Doc) -> Result<Found, AllocError>
     })
 }
 
-pub(super) fn ticket_of(state: &State) -> u64
+/// The ticket of the running compaction, and 0 where none runs.
+pub fn ticket_of(state: &State) -> u64
     ensures { result ≡ ticket_of state.now }
 {
     match state.copying {

@@ -9,7 +9,8 @@ use std::mem;
 
 // ---- look-ups
 
-pub(super) fn store_of(table: &[Store], id: u64) -> Option<&Store>
+/// The store of an id in a table.
+pub fn store_of(table: &[Store], id: u64) -> Option<&Store>
     ensures { option_copied result ≡ stores.store_of table.now id }
 {
     table.iter().find(|store| store.id == id)
@@ -30,7 +31,8 @@ pub(super) fn seq_of(table: &[Store], id: u64) -> u64
     }
 }
 
-pub(super) fn doc_at<'a>(
+/// The document of a store's key. An `Err` is want of memory, for the place that is looked up.
+pub fn doc_at<'a>(
     documents: &'a Documents,
     store: u64,
     key: &Bytes,
@@ -96,7 +98,8 @@ fn copy_of_store(store: &Store) -> Result<Store, AllocError>
     })
 }
 
-pub(super) fn copy_of_stores(alloc: Global, table: &[Store]) -> Result<StoreList, AllocError>
+/// A table of stores once more. An `Err` is want of memory.
+pub fn copy_of_stores(alloc: Global, table: &[Store]) -> Result<StoreList, AllocError>
     ensures { IfOk result (λ copy. copy ≡ table.now) }
 {
     let mut copy = Vec::new(alloc);
@@ -123,10 +126,25 @@ fn find_with_seq(commits: &[Commit], id: u64, seq: u64) -> Option<&Commit>
     commits.iter().find(|commit| has_seq(commit, id, seq))
 }
 
+/// The newest of the last commit and the earlier ones, newest first, that has a store at a number.
+pub fn commit_at<'a>(
+    last: &'a Commit,
+    earlier: &'a [Commit],
+    id: u64,
+    seq: u64,
+) -> Option<&'a Commit>
+    ensures { option_copied result ≡ find (stores.has_seq id seq) (last.now ∷ earlier.now) }
+{
+    if has_seq(last, id, seq) {
+        return Some(last);
+    }
+    find_with_seq(earlier, id, seq)
+}
+
 pub(super) fn any_has_seq(last: &Commit, earlier: &[Commit], id: u64, seq: u64) -> bool
     ensures { result ≡ is_some (find (stores.has_seq id seq) (last.now ∷ earlier.now)) }
 {
-    has_seq(last, id, seq) || find_with_seq(earlier, id, seq).is_some()
+    commit_at(last, earlier, id, seq).is_some()
 }
 
 fn find_numbered(commits: &[Commit], number: u64) -> Option<&Commit>
