@@ -12,8 +12,8 @@ use Rattle.forest_model.specs.declared.state.State.{State}
 use Rattle.forest_model.specs.declared.stored.Rec.{Rec}
 use Rattle.model_laws.specs.Laws.{RecordsKeepHeader}
 use Rattle.file_core.specs.Stands.{AreDocuments}
-use Rattle.file_stores.specs.StoreChanges.{PutsRecord}
 use Rattle.file_parts.specs.Moment.{Moment}
+use Rattle.file_parts.specs.Records.{PutsRecord}
 use Rattle.file_core.specs.Updates.{StandsAt, IsFile, bytes_of}
 use Rattle.file_core.proofs.SetBlocks.{Lengths, put_lengths, put_records, behind, length-bytes_of, bytes-append}
 use Rattle.file_core.proofs.SetEntries.{has_more}

@@ -21,8 +21,9 @@ use Rattle.model_laws.specs.Laws.{RulesStay, RecordsKeepHeader}
 use Rattle.file_parts.specs.Held.{Held}
 use Rattle.file_parts.specs.Causes.{blocks_needed, OnlyMemory}
 use Rattle.file_core.specs.Stands.{Stands, row_in}
-use Rattle.file_stores.specs.StoreChanges.{id_named, make_causes, open_causes, new_of, MakesStore, NotPut, OpenGives, OpenAnswers}
+use Rattle.file_stores.specs.StoreChanges.{id_named, make_causes, open_causes, new_of, MakesStore, OpenGives, OpenAnswers}
 use Rattle.file_parts.specs.Moment.{Moment}
+use Rattle.file_parts.specs.Records.{NotPut}
 use Rattle.file_core.specs.Updates.{StandsAt, IsFile, UpdatesAs, bytes_of}
 use Rattle.file_documents.proofs.RecordLength.{length-record}
 use Rattle.file_core.proofs.SetCauses.{none_holds, unmet}

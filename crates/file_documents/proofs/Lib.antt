@@ -1,6 +1,5 @@
 pub mod RecordLength
 pub mod SetDone
-pub mod DeleteDone
 pub mod BatchItems
 pub mod BatchPut
 pub mod BatchDone

@@ -1,9 +1,7 @@
 -- What the steps of a set leave together.
-use Rattle.std.proofs.Common.{◌≡◌, ℕ, ◌+◌, List, [], length, sym, ap, subst, ◌∙◌, ◌++◌, Bool}
+use Rattle.std.proofs.Common.{◌≡◌, ℕ, ◌+◌, List, [], length, sym, ap, subst, ◌∙◌, Bool}
 use Rattle.std.specs.Prelude.{IsTrue}
 use Rattle.std.specs.FinMap as finite
-use Rattle.block_host.specs.Disk.{Disk}
-use Rattle.block_host.specs.declared.block.Block.{Block}
 use Rattle.doc_stream.specs.OpenBlock.{OpenBlock, PutsBytes}
 use Rattle.doc_stream.specs.Records.{is_record, record_bytes}
 use Rattle.forest_model.specs.Documents.{key_at, doc_of}
@@ -14,48 +12,60 @@ use Rattle.forest_model.specs.declared.stored.Rec.{Rec}
 use Rattle.kvs_names.specs.Table.{counted}
 use Rattle.wal_index.specs.Index.{Index}
 use Rattle.file_parts.specs.Held.{Held}
-use Rattle.file_documents.specs.Setting.{put_of, documents_after, live_after, entry_of, Sets}
+use Rattle.file_documents.specs.Setting.{put_of, documents_after, live_after, entry_of, SetsFile}
 use Rattle.file_parts.specs.Causes.{documents_in}
+use Rattle.file_parts.specs.Moment.{Moment}
+use Rattle.file_parts.specs.Records.{PutsRecord}
 
--- the record is put, which leaves this open block and index, and then all else is changed
-pub entered : (p q : Held) (t : OpenBlock) (w : Index) (k : DocKey) (d : Doc) (out : List Block) (e : Entry) (documents : ℕ) → w.entries ≡ p.wal.entries → e ≡ entry_of p.tail k d
-    → q.wal.entries ≡ finite.insert w.entries k e
-    → q ≡ record p {
-      tail = t;
-      blocks = t.number;
-      names = counted p.names k.store e.seq (documents_after (finite.get w.entries k) documents);
-      wal = q.wal;
-      loose = length t.bytes;
-      live = live_after (finite.get w.entries k) p.live e.len;
-      place = p.place + 1;
+-- the index has room, a record is put, and then neither the open block nor the file is changed
+put_on : (told : Bool) (old mid new : Moment) (w : Index) (r s : Rec) → r ≡ s → PutsRecord told r (record old { held = record (old.held) { wal = w } }) mid
+    → mid.held.tail ≡ new.held.tail → new.disk ≡ mid.disk → new.file ≡ mid.file → PutsRecord told s old new
+put_on told old mid new w r s r_is puts t_is disk_is file_is = record {
+  out = puts.out;
+  put = subst (λ (t : OpenBlock). PutsBytes old.held.revision (record_bytes s) old.held.tail t [] puts.out) t_is
+      (subst (λ (q : Rec). PutsBytes old.held.revision (record_bytes q) old.held.tail mid.held.tail [] puts.out) r_is puts.put);
+  files = λ t. ap (λ d. d.files old.held.revision) disk_is ∙ puts.files t;
+  shown = λ t was. file_is ∙ puts.shown t was ∙ sym (ap (λ d. d.files old.held.revision) disk_is);
+}
+
+-- the index has room, the record is put, and then all else is changed
+pub entered : (told : Bool) (k : DocKey) (d : Doc) (old mid new : Moment) (w : Index) (r : Rec) (e : Entry) (documents : ℕ)
+    → w.entries ≡ old.held.wal.entries → r ≡ put_of k d → IsTrue (is_record r) → e ≡ entry_of old.held.tail k d → documents ≡ documents_in old.held.names.rows k.store
+    → PutsRecord told r (record old { held = record (old.held) { wal = w } }) mid → mid.held ≡ record (old.held) { wal = w; tail = mid.held.tail }
+    → new.disk ≡ mid.disk → new.file ≡ mid.file
+    → new.held.wal.entries ≡ finite.insert mid.held.wal.entries k e
+    → new.held ≡ record (mid.held) {
+      blocks = mid.held.tail.number;
+      names = counted mid.held.names k.store e.seq (documents_after (finite.get mid.held.wal.entries k) documents);
+      wal = new.held.wal;
+      loose = length mid.held.tail.bytes;
+      live = live_after (finite.get mid.held.wal.entries k) mid.held.live e.len;
+      place = mid.held.place + 1;
     }
-    → documents ≡ documents_in p.names.rows k.store → PutsBytes p.revision (record_bytes (put_of k d)) p.tail t [] out → IsTrue (is_record (put_of k d)) → Sets p q k d out
-entered p q t w k d out e documents w_is e_is inserted rest counts put is =
-    let t_is : t ≡ q.tail = sym (ap (λ (h : Held). h.tail) rest) in
+    → SetsFile told k d old new
+entered told k d old mid new w r e documents w_is r_is is e_is counts puts mid_is disk_is file_is inserted rest =
+    let t_is : mid.held.tail ≡ new.held.tail = sym (ap (λ (h : Held). h.tail) rest) in
+    let known : mid.held.wal.entries ≡ old.held.wal.entries = ap (λ (h : Held). h.wal.entries) mid_is ∙ w_is in
+    let lies : PutsRecord told (put_of k d) old new = put_on told old mid new w r (put_of k d) r_is puts t_is disk_is file_is in
     record {
-      is_record = is;
-      put = subst (λ (x : OpenBlock). PutsBytes p.revision (record_bytes (put_of k d)) p.tail x [] out) t_is put;
-      entries = inserted ∙ (λ i. finite.insert (w_is i) k (e_is i));
-      rest = rest ∙ (λ i. record p {
-        tail = t_is i;
-        blocks = (t_is i).number;
-        names = counted p.names k.store (e_is i).seq (documents_after (finite.get (w_is i) k) (counts i));
-        wal = q.wal;
-        loose = length (t_is i).bytes;
-        live = live_after (finite.get (w_is i) k) p.live (e_is i).len;
-        place = p.place + 1;
-      });
+      out = lies.out;
+      sets = record {
+        is_record = subst (λ (q : Rec). IsTrue (is_record q)) r_is is;
+        put = lies.put;
+        entries = inserted ∙ (λ i. finite.insert (known i) k (e_is i));
+        rest = rest ∙ (λ i. record (mid_is i) {
+          blocks = (t_is i).number;
+          names = counted (mid_is i).names k.store (e_is i).seq (documents_after (finite.get (known i) k) (counts i));
+          wal = new.held.wal;
+          tail = t_is i;
+          loose = length (t_is i).bytes;
+          live = live_after (finite.get (known i) k) (mid_is i).live (e_is i).len;
+          place = (mid_is i).place + 1;
+        });
+      };
+      files = lies.files;
+      shown = lies.shown;
     }
-
--- the blocks are put, and nothing else is done to the host and the view
-pub entered_file : {H V : Type 0} (disk : H → Disk) (content : V → List Block) (told : Bool) (file : ℕ) (before grown after : H) (view shown shown_after : V) (blocks out : List Block)
-    → after ≡ grown → shown_after ≡ shown → blocks ≡ out
-    → (IsTrue told → (disk grown).files file ≡ (disk before).files file ++ blocks) → (IsTrue told → content view ≡ (disk before).files file → content shown ≡ (disk grown).files file)
-    → (IsTrue told → (disk after).files file ≡ (disk before).files file ++ out) × (IsTrue told → content view ≡ (disk before).files file → content shown_after ≡ (disk after).files file)
-entered_file {H} {V} disk content told file before grown after view shown shown_after blocks out host_is view_is out_is files sees = (
-  λ t. ap (λ (h : H). (disk h).files file) host_is ∙ files t ∙ ap (λ bs. (disk before).files file ++ bs) out_is,
-  λ t was. ap content view_is ∙ sees t was ∙ sym (ap (λ (h : H). (disk h).files file) host_is),
-)
 
 -- the record of a document at the next number
 pub next_record : (store n m : ℕ) (key meta body : List ℕ) (r : Rec) → r ≡ record { kind = 1; store = store; seq = n + 1; key = key; meta = meta; body = body } → n ≡ m

@@ -1,8 +1,7 @@
-ghost use Rattle.std.specs.Prelude.{◌≡◌, ◌≢◌, ◌⊎◌, ◌≤◌, ◌<◌, ◌+◌, ◌^◌, ℕ, false, true, [], length, map, IsTrue, is_some, Err, IfOk, OnOk, OnErr};
+ghost use Rattle.std.specs.Prelude.{◌≡◌, ◌≢◌, ◌⊎◌, ◌≤◌, ◌<◌, ◌+◌, ◌^◌, false, true, [], length, map, IsTrue, is_some, Err, IfOk, OnOk, OnErr};
 ghost use Rattle.std.specs.FinMap as finite;
 ghost use Rattle.std.specs.List.{list_any};
-ghost use Rattle.doc_stream.specs.OpenBlock.{PutsBytes, address_of};
-ghost use Rattle.doc_stream.specs.Records.{is_record, record_bytes};
+ghost use Rattle.doc_stream.specs.Records.{is_record};
 ghost use Rattle.forest_model.specs.Documents.{key_at};
 ghost use Rattle.forest_model.specs.Limits as limits;
 ghost use Rattle.forest_model.specs.declared.refusal.Refusal.TheVariants as Refusal;
@@ -13,10 +12,10 @@ ghost use Rattle.file_parts.specs.Held.{held};
 
 use crate::deleting::len_of_living;
 use crate::items::{item_len, items_len, key_of};
-use crate::setting::{documents_with, live_with, record_of};
+use crate::setting::{documents_with, live_with};
 use block_host::{Block, Host};
 use doc_stream::Tail;
-use file_parts::{MOST_BLOCKS, Parts};
+use file_parts::{MOST_BLOCKS, Parts, advance, record_of};
 use forest_model::{Entry, Item, Rec, Refusal};
 use std::alloc::Global;
 use wal_index::{Room, WalIndex};
@@ -305,7 +304,5 @@ pub(crate) fn enter_batch<H: Host>(
     );
     parts.names.count(at.store, at.seq, count);
     parts.tail = tail;
-    parts.blocks = parts.tail.number();
-    parts.loose = parts.tail.address() % 4096;
-    parts.place += 1;
+    advance(parts);
 }

@@ -1,4 +1,4 @@
-ghost use Rattle.std.specs.Prelude.{◌≡◌, ◌≢◌, ◌≤◌, ◌<◌, ◌+◌, length, IsTrue, Some, None, Err, IfOk, OnOk};
+ghost use Rattle.std.specs.Prelude.{◌≡◌, ◌≢◌, ◌≤◌, ◌<◌, ◌+◌, length, IsTrue, Some, None, Err, IfOk};
 ghost use Rattle.std.specs.Result.{result_err};
 ghost use Rattle.forest_model.specs.Step.{first_cause};
 ghost use Rattle.forest_model.specs.declared.refusal.Refusal.TheVariants as Refusal;
@@ -9,8 +9,8 @@ ghost use Rattle.file_parts.specs.Moment.{Aside, moment_of};
 
 use crate::batch_puts::{Batched, Drawn, enter_batch, put_batch};
 use crate::items::{any_wrong_body, any_wrong_key, items_len, misses_one};
-use block_host::{Failed, Host};
-use file_parts::{Parts, grow, is_full, is_later_worn, is_next_worn};
+use block_host::Host;
+use file_parts::{Parts, grow_or_stop, is_full, is_later_worn, is_next_worn};
 use forest_model::{Item, Refusal, StoreRef};
 use std::alloc::Global;
 
@@ -121,24 +121,11 @@ fn batch_free<H: Host>(
         },
         items,
     )?;
-    let seq = numbers.0 + items.len() as u64;
-    match grow(
-        &mut parts.host,
-        &mut parts.view,
-        parts.revision,
-        out.as_slice(),
-    ) {
-        Ok(()) => {
-            let drawn = Drawn {
-                store: at.store,
-                seq,
-            };
-            enter_batch(parts, drawn, items, tail, pending, numbers.1);
-            Ok(seq)
-        }
-        Err(Failed) => {
-            parts.stopped = Some(parts.host.faults());
-            Err(Refusal::DiskFault)
-        }
-    }
+    grow_or_stop(parts, out.as_slice())?;
+    let drawn = Drawn {
+        store: at.store,
+        seq: numbers.0 + items.len() as u64,
+    };
+    enter_batch(parts, drawn, items, tail, pending, numbers.1);
+    Ok(drawn.seq)
 }

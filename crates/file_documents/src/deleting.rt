@@ -1,7 +1,5 @@
-ghost use Rattle.std.specs.Prelude.{◌≡◌, ◌≢◌, ◌≤◌, ◌+◌, ◌-◌, ◌^◌, ◌<◌, length, IsTrue, true, is_some, Some, None, Ok, Err, IfOk, OnOk};
+ghost use Rattle.std.specs.Prelude.{◌≡◌, ◌≢◌, ◌≤◌, ◌+◌, ◌-◌, ◌^◌, ◌<◌, length, IsTrue, true, is_some, Some, None, Ok, Err, IfOk};
 ghost use Rattle.std.specs.FinMap as finite;
-ghost use Rattle.doc_stream.specs.OpenBlock.{PutsBytes};
-ghost use Rattle.doc_stream.specs.Records.{is_record, record_bytes};
 ghost use Rattle.forest_model.specs.Documents.{key_at};
 ghost use Rattle.forest_model.specs.Step.{first_cause};
 ghost use Rattle.forest_model.specs.declared.refusal.Refusal.TheVariants as Refusal;
@@ -13,9 +11,9 @@ ghost use Rattle.file_documents.specs.Setting.{is_live, live_len};
 ghost use Rattle.file_documents.specs.Deleting.{delete_causes, DeleteGives, DeleteAnswers};
 ghost use Rattle.file_parts.specs.Moment.{Aside, moment_of};
 
-use crate::setting::{Taken, record_len, record_of, take};
-use block_host::{Failed, Host};
-use file_parts::{Parts, grow, is_full, is_next_worn, is_wrong_key};
+use crate::setting::record_len;
+use block_host::Host;
+use file_parts::{Parts, advance, append, is_full, is_next_worn, is_wrong_key, record_of};
 use forest_model::{Entry, Refusal, StoreRef};
 use std::alloc::Global;
 use wal_index::Room;
@@ -116,35 +114,16 @@ fn delete_free<H: Host>(
     let seq = numbers.0 + 1;
     let len = record_len(key, &[], &[]);
     let rec = record_of(alloc, 2, at.store, seq, key, &[], &[])?;
-    let Taken { room, out, address } = take(
-        alloc,
-        &mut parts.tail,
-        &mut parts.wal,
-        parts.revision,
-        rec,
-        len,
-    )?;
+    let room = parts.wal.room(key, 1)?;
+    let address = append(alloc, parts, &rec, len)?;
     let entry = Entry {
         seq,
         address,
         live: false,
         len,
     };
-    match grow(
-        &mut parts.host,
-        &mut parts.view,
-        parts.revision,
-        out.as_slice(),
-    ) {
-        Ok(()) => {
-            enter_deletion(parts, at.store, key, room, entry, numbers.1);
-            Ok(seq)
-        }
-        Err(Failed) => {
-            parts.stopped = Some(parts.host.faults());
-            Err(Refusal::DiskFault)
-        }
-    }
+    enter_deletion(parts, at.store, key, room, entry, numbers.1);
+    Ok(seq)
 }
 
 // Makes a deletion whose record was put known to the index, the table and the counts.
@@ -180,9 +159,7 @@ fn enter_deletion<H: Host>(
         .names
         .count(store, entry.seq, documents.saturating_sub(1));
     parts.wal.put(store, room, entry);
-    parts.blocks = parts.tail.number();
-    parts.loose = parts.tail.address() % 4096;
-    parts.place += 1;
+    advance(parts);
 }
 
 // The bytes of a key's record, where its newest entry sets it.

@@ -1,8 +1,6 @@
-ghost use Rattle.std.specs.Prelude.{◌≡◌, ◌≢◌, ◌⊎◌, ◌≤◌, ◌<◌, ◌+◌, ◌^◌, [], length, List, IsTrue, true, false, is_some, Some, None, Ok, Err, IfOk, OnOk, OnErr};
+ghost use Rattle.std.specs.Prelude.{◌≡◌, ◌≢◌, ◌≤◌, ◌<◌, ◌+◌, ◌^◌, length, IsTrue, true, false, is_some, Some, None, Ok, Err, IfOk};
 ghost use Rattle.std.specs.FinMap as finite;
 ghost use Rattle.std.specs.Result.{result_err};
-ghost use Rattle.doc_stream.specs.OpenBlock.{PutsBytes, address_of};
-ghost use Rattle.doc_stream.specs.Records.{is_record, record_bytes};
 ghost use Rattle.forest_model.specs.Documents.{key_at};
 ghost use Rattle.forest_model.specs.Limits as limits;
 ghost use Rattle.forest_model.specs.Step.{first_cause, record_length};
@@ -13,12 +11,11 @@ ghost use Rattle.file_parts.specs.Causes.{seq_in, documents_in};
 ghost use Rattle.file_documents.specs.Setting.{documents_after, live_after, set_causes, SetGives, SetAnswers};
 ghost use Rattle.file_parts.specs.Moment.{Aside, moment_of};
 
-use block_host::{Block, Failed, Host};
-use doc_stream::Tail;
-use file_parts::{MOST_BLOCKS, Parts, grow, is_full, is_next_worn, is_wrong_key};
-use forest_model::{Bytes, Entry, Rec, Refusal, StoreRef};
+use block_host::Host;
+use file_parts::{Parts, advance, append, is_full, is_next_worn, is_wrong_key, record_of};
+use forest_model::{Entry, Refusal, StoreRef};
 use std::alloc::Global;
-use wal_index::{Room, WalIndex};
+use wal_index::Room;
 
 /// Sets a key of a file that hasn't stopped, and answers the number that its document draws. Refused are a reference for
 /// reading, a key that hasn't 1 to 3,500 bytes, more than 255 bytes of meta or 1,048,576 of body, a store that isn't there, a
@@ -132,101 +129,16 @@ fn set_free<H: Host>(
     let seq = numbers.0 + 1;
     let len = record_len(key, meta, body);
     let rec = record_of(alloc, 1, at.store, seq, key, meta, body)?;
-    let Taken { room, out, address } = take(
-        alloc,
-        &mut parts.tail,
-        &mut parts.wal,
-        parts.revision,
-        rec,
-        len,
-    )?;
+    let room = parts.wal.room(key, 1)?;
+    let address = append(alloc, parts, &rec, len)?;
     let entry = Entry {
         seq,
         address,
         live: true,
         len,
     };
-    match grow(
-        &mut parts.host,
-        &mut parts.view,
-        parts.revision,
-        out.as_slice(),
-    ) {
-        Ok(()) => {
-            enter(parts, at.store, key, room, entry, numbers.1);
-            Ok(seq)
-        }
-        Err(Failed) => {
-            parts.stopped = Some(parts.host.faults());
-            Err(Refusal::DiskFault)
-        }
-    }
-}
-
-// The record that sets a key, or deletes one.
-pub(crate) fn record_of(
-    alloc: Global,
-    kind: u8,
-    store: u64,
-    seq: u64,
-    key: &[u8],
-    meta: &[u8],
-    body: &[u8],
-) -> Result<Rec, Refusal>
-    ensures record { IfOk result (λ rec. rec ≡ record { kind = kind; store = store; seq = seq; key = key.now; meta = meta.now; body = body.now }) }
-    ensures memory { OnErr result (result ≡ Err Refusal.NoMemory) }
-{
-    Ok(Rec {
-        kind,
-        store,
-        seq,
-        key: Bytes::copy_of(alloc, key)?,
-        meta: Bytes::copy_of(alloc, meta)?,
-        body: Bytes::copy_of(alloc, body)?,
-    })
-}
-
-// What a record was put with: the memory of its entry, the blocks that filled, and its address.
-#[derive(Drop)]
-pub(crate) struct Taken {
-    pub(crate) room: Room,
-    pub(crate) out: Vec<Block>,
-    pub(crate) address: u64,
-}
-
-// Takes the memory for a record's entry and for the blocks that fill, and puts the record.
-pub(crate) fn take(
-    alloc: Global,
-    tail: &mut Tail,
-    wal: &mut WalIndex,
-    revision: u64,
-    rec: Rec,
-    len: u64,
-) -> Result<Taken, Refusal>
-    requires is_record { IsTrue (is_record rec) }
-    requires len { len ≡ length (record_bytes rec) }
-    requires small { len ≤ 2 ^ 21 }
-    ensures room { IfOk result (λ taken. taken.room ≡ rec.key) }
-    ensures address { IfOk result (λ taken. taken.address ≡ address_of tail.old.number (length tail.old.bytes)) }
-    ensures put { IfOk result (λ taken. PutsBytes revision (record_bytes rec) tail.old tail.new [] taken.out.items) }
-    ensures is_record { OnOk result (IsTrue (is_record rec)) }
-    ensures one { OnOk result (1 ≤ wal.new.room) }
-    ensures entries { wal.new.entries ≡ wal.old.entries }
-    ensures memory { OnErr result ((result ≡ Err Refusal.NoMemory) ⊎ (2 ^ 32 < tail.old.number)) }
-    ensures no_fault { result ≢ Err Refusal.DiskFault }
-    ensures kept { OnErr result (tail.new ≡ tail.old) }
-{
-    if tail.number() > MOST_BLOCKS {
-        return Err(Refusal::FileFull {
-            used: tail.number(),
-            needed: tail.needed(len),
-            max: MOST_BLOCKS,
-        });
-    }
-    let room = wal.room(rec.key.as_slice(), 1)?;
-    let mut out = Vec::new(alloc);
-    let address = tail.put(&rec, revision, &mut out)?;
-    Ok(Taken { room, out, address })
+    enter(parts, at.store, key, room, entry, numbers.1);
+    Ok(seq)
 }
 
 // Makes a document whose record was put known to the index, the table and the counts.
@@ -262,9 +174,7 @@ fn enter<H: Host>(
         .names
         .count(store, entry.seq, documents_with(older, documents));
     parts.wal.put(store, room, entry);
-    parts.blocks = parts.tail.number();
-    parts.loose = parts.tail.address() % 4096;
-    parts.place += 1;
+    advance(parts);
 }
 
 // The bytes of live records, once a key with this older entry has a record of so many bytes.

@@ -2,3 +2,4 @@ pub mod Held
 pub mod Moment
 pub mod Lookup
 pub mod Causes
+pub mod Records

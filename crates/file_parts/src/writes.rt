@@ -1,9 +1,13 @@
-ghost use Rattle.std.specs.Prelude.{◌≡◌, ◌+◌, ◌++◌, ◌≤◌, IsTrue, OnOk, OnErr, nat_lt};
+ghost use Rattle.std.specs.Prelude.{◌≡◌, ◌+◌, ◌++◌, ◌≤◌, IsTrue, Some, Err, OnOk, OnErr, nat_lt};
 ghost use Rattle.block_host.specs.Disk.{risen};
 ghost use Rattle.forest_model.specs.Limits.{is_worn};
+ghost use Rattle.forest_model.specs.declared.refusal.Refusal.TheVariants as Refusal;
+ghost use Rattle.file_parts.specs.Held.{held};
 ghost use Rattle.file_parts.specs.Moment.{Aside};
 
+use crate::Parts;
 use block_host::{Block, Failed, Host};
+use forest_model::Refusal;
 
 /// No file has more blocks.
 pub const MOST_BLOCKS: u64 = 1 << 32;
@@ -45,9 +49,34 @@ pub fn is_full(blocks: u64, needed: u64, max: u64) -> bool
     max < 2 || is_over(blocks, needed, max - 2)
 }
 
-/// Puts blocks at the end of a file and sets the view on it; without any, neither is asked. It fails where one of them
-/// does, whose count of faults rises then.
-pub fn grow<H: Host>(
+/// Puts blocks at the end of the current file and sets the view on it; without any, neither is asked. A host that fails
+/// stops the file.
+pub fn grow_or_stop<H: Host>(parts: &mut Parts<H>, blocks: &[Block]) -> Result<(), Refusal>
+    ensures files { IsTrue H.tells → OnOk result ((H.disk parts.new.host).files parts.old.revision ≡ (H.disk parts.old.host).files parts.old.revision ++ blocks.now) }
+    ensures shown { IsTrue H.tells → OnOk result (H.View.content parts.old.view ≡ (H.disk parts.old.host).files parts.old.revision → H.View.content parts.new.view ≡ (H.disk parts.new.host).files parts.old.revision) }
+    ensures kept { OnOk result (held parts.new ≡ held parts.old) }
+    ensures stops { OnErr result (held parts.new ≡ record (held parts.old) { stopped = Some (H.faults parts.new.host) }) }
+    ensures failed { OnErr result ((result ≡ Err Refusal.DiskFault) × (risen (H.faults parts.old.host) ≤ H.faults parts.new.host)) }
+    ensures aside { IsTrue H.tells → Aside parts.old.revision (H.disk parts.old.host) (H.disk parts.new.host) }
+    ensures clock { (H.disk parts.old.host).moment ≤ (H.disk parts.new.host).moment }
+    ensures counts { H.faults parts.old.host ≤ H.faults parts.new.host }
+    ensures untroubled { OnOk result (H.faults parts.new.host ≡ H.faults parts.old.host) }
+    ensures view_count { H.View.faults parts.new.view ≡ H.View.faults parts.old.view }
+    ensures opened { parts.new.opened ≡ parts.old.opened }
+    ensures damaged { parts.new.damaged ≡ parts.old.damaged }
+{
+    match grow(&mut parts.host, &mut parts.view, parts.revision, blocks) {
+        Ok(()) => Ok(()),
+        Err(Failed) => {
+            parts.stopped = Some(parts.host.faults());
+            Err(Refusal::DiskFault)
+        }
+    }
+}
+
+// Puts blocks at the end of a file and sets the view on it; without any, neither is asked. It fails where one of them
+// does, whose count of faults rises then.
+fn grow<H: Host>(
     host: &mut H,
     view: &mut H::View,
     file: u64,

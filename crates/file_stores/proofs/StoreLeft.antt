@@ -11,8 +11,9 @@ use Rattle.kvs_names.specs.Table.{without}
 use Rattle.wal_index.specs.Index.{Index}
 use Rattle.wal_index.specs.Live.{own_live}
 use Rattle.file_parts.specs.Held.{Held}
-use Rattle.file_stores.specs.StoreChanges.{gone_of, PutsRecord, RemovesStore}
+use Rattle.file_stores.specs.StoreChanges.{gone_of, RemovesStore}
 use Rattle.file_parts.specs.Moment.{Moment}
+use Rattle.file_parts.specs.Records.{PutsRecord}
 
 -- the memory is taken, the record is put, and then all else is changed
 pub unmade : (told : Bool) (id : ℕ) (old mid new : Moment) (w : Index) (live : ℕ) (r : Rec) → w ≡ record (old.held.wal) { may_go = true } → r ≡ gone_of id

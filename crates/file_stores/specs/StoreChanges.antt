@@ -1,17 +1,13 @@
 -- Why a store isn't opened or removed, and what is left in memory, by what an open file has there.
-use Rattle.std.specs.Prelude.{◌≡◌, ◌⊎◌, ℕ, ◌+◌, ◌<◌, ◌≤◌, ◌^◌, Bool, false, not, ◌||◌, ◌==◌, ◌-◌, min, codes, nat_eq, IsTrue, List, [], ◌∷◌, ◌++◌, length, Option, Some, None, is_none, nat_le, MatchOption, MatchResult, Result, Ok, Err}
+use Rattle.std.specs.Prelude.{◌≡◌, ℕ, ◌+◌, ◌^◌, Bool, false, not, ◌||◌, ◌==◌, ◌-◌, min, codes, nat_eq, List, [], ◌∷◌, length, Option, Some, None, is_none, nat_le, MatchOption, MatchResult, Result, Ok, Err}
 use Rattle.std.specs.Cmp.Lexicographic.{pointwise}
 use Rattle.std.specs.FinMap as finite
 use Rattle.std.specs.Option.{option_map, option_map_or}
-use Rattle.block_host.specs.Disk.{risen}
-use Rattle.block_host.specs.declared.block.Block.{Block}
-use Rattle.doc_stream.specs.OpenBlock.{PutsBytes}
-use Rattle.doc_stream.specs.Records.{record_bytes}
 use Rattle.forest_model.specs.Limits.{is_name, any_worn}
 use Rattle.forest_model.specs.Step.{◌where_holds◌, first_cause}
 use Rattle.forest_model.specs.declared.call.StoreRef.{StoreRef}
 use Rattle.forest_model.specs.declared.refusal.Refusal.{Refusal}
-use Rattle.forest_model.specs.declared.refusal.Refusal.TheVariants.{ReadOnly, NameForm, NoStore, Worn, StoreCount, NoMemory, DiskFault}
+use Rattle.forest_model.specs.declared.refusal.Refusal.TheVariants.{ReadOnly, NameForm, NoStore, Worn, StoreCount}
 use Rattle.forest_model.specs.declared.stored.Rec.{Rec}
 use Rattle.kvs_names.specs.Answers.{remove_causes as why_not_removed}
 use Rattle.kvs_names.specs.Table.{Table, row_named, with_new, without}
@@ -19,6 +15,7 @@ use Rattle.wal_index.specs.Live.{own_live}
 use Rattle.file_parts.specs.Held.{Held}
 use Rattle.file_parts.specs.Causes.{blocks_needed, full_cause, OnlyMemory}
 use Rattle.file_parts.specs.Moment.{Moment}
+use Rattle.file_parts.specs.Records.{PutsRecord, NotPut}
 
 -- the record that makes a store
 abbrev pub new_of : ℕ → List ℕ → Rec
@@ -27,13 +24,6 @@ new_of id name = record { kind = 3; store = id; seq = 0; key = name; meta = []; 
 -- the record that removes one
 abbrev pub gone_of : ℕ → Rec
 gone_of id = record { kind = 4; store = id; seq = 0; key = []; meta = []; body = [] }
-
--- What a record that is put leaves: its bytes are behind those of the open block, and the full blocks at the file's end.
-pub record PutsRecord (told : Bool) (r : Rec) (old new : Moment) : Type 0 where
-  pub out : List Block
-  pub put : PutsBytes old.held.revision (record_bytes r) old.held.tail new.held.tail [] out
-  pub files : IsTrue told → new.disk.files old.held.revision ≡ old.disk.files old.held.revision ++ out
-  pub shown : IsTrue told → old.file ≡ old.disk.files old.held.revision → new.file ≡ new.disk.files old.held.revision
 
 -- ---- a store is opened
 
@@ -63,10 +53,6 @@ pub record MakesStore (told : Bool) (name : List ℕ) (old new : Moment) : Type 
     loose = length new.held.tail.bytes;
     place = old.held.place + 1;
   }
-
--- why a record isn't put for which there is room
-abbrev pub NotPut : Moment → Moment → Refusal → Type 0
-NotPut old new why = ((why ≡ NoMemory) × OnlyMemory old new) ⊎ ((why ≡ DiskFault) × (risen old.host_faults ≤ new.host_faults)) ⊎ (2 ^ 32 < old.held.tail.number)
 
 -- what a store that isn't there gives
 abbrev pub MakeGives : Bool → List ℕ → Moment → Moment → Result ℕ Refusal → Type 0

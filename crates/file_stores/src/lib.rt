@@ -6,7 +6,6 @@
 #![tactic(auto)]
 
 mod opening;
-mod records;
 mod removing;
 
 pub use opening::open_store;

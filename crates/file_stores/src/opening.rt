@@ -9,9 +9,8 @@ ghost use Rattle.forest_model.specs.declared.refusal.Refusal.TheVariants as Refu
 ghost use Rattle.kvs_names.specs.Answers.{create_causes};
 ghost use Rattle.kvs_names.specs.Table.{with_new};
 
-use crate::records::{advance, append, record_of};
 use block_host::Host;
-use file_parts::{Parts, is_full, is_next_worn, is_worn};
+use file_parts::{Parts, advance, append, is_full, is_next_worn, is_worn, record_of};
 use forest_model::{Refusal, StoreRef};
 use kvs_names::Names;
 use std::alloc::Global;
@@ -124,7 +123,7 @@ fn make<H: Host>(alloc: Global, parts: &mut Parts<H>, name: &[u8]) -> Result<u64
     ensures damaged { parts.new.damaged ≡ parts.old.damaged }
 {
     let id = parts.names.next();
-    let rec = record_of(alloc, 3, id, name)?;
+    let rec = record_of(alloc, 3, id, 0, name, &[], &[])?;
     append(alloc, parts, &rec, 24 + name.len() as u64)?;
     enter(parts, name);
     Ok(id)

@@ -10,9 +10,8 @@ ghost use Rattle.kvs_names.specs.Answers.{remove_causes as why_not_removed};
 ghost use Rattle.kvs_names.specs.Table.{without};
 
 use crate::opening::id_of;
-use crate::records::{advance, append, record_of};
 use block_host::Host;
-use file_parts::{Parts, is_full, is_next_worn};
+use file_parts::{Parts, advance, append, is_full, is_next_worn, record_of};
 use forest_model::{Refusal, StoreRef};
 use std::alloc::Global;
 
@@ -90,7 +89,7 @@ fn unmake<H: Host>(alloc: Global, parts: &mut Parts<H>, id: u64) -> Result<u64, 
     ensures damaged { parts.new.damaged ≡ parts.old.damaged }
 {
     let live = parts.wal.live_of(id);
-    let rec = record_of(alloc, 4, id, b"")?;
+    let rec = record_of(alloc, 4, id, 0, &[], &[], &[])?;
     parts.wal.reserve_gone()?;
     append(alloc, parts, &rec, 24)?;
     forget(parts, id, live);

@@ -2,7 +2,6 @@ use Rattle.std.proofs.Common.{◌+◌, [], length, ap}
 use Rattle.file_parts.specs.Moment.{moment_of}
 use Rattle.file_documents.proofs.BatchDone.{batched}
 use Rattle.file_documents.proofs.BatchPut.{rooms_are}
-use Rattle.file_documents.proofs.SetDone.{entered_file}
 use Rattle.file_documents.proofs.batching.batch_free.Goals as goal
 
 pub enter_batch-requires-clause-rooms : goal.enter_batch-requires-clause-rooms
@@ -10,16 +9,16 @@ enter_batch-requires-clause-rooms g c κs within =
     rooms_are c.args.parts.now.revision c.args.at.now.store c.args.numbers.0 c.args.items.now c.in_ok-tail.field-0.pending.items c.args.parts.now.tail c.in_ok-tail.field-0.tail [] c.in_ok-tail.field-0.out.items
     c.in_ok-tail.ensures.put
 
-pub returns-in-Ok-clause-gives : goal.returns-in-Ok-clause-gives
-returns-in-Ok-clause-gives g c =
-    let b = c.in_ok-tail.field-0 in
-    let lies = entered_file g.H.Host.disk g.H.View.View.content g.H.Host.tells c.args.parts.now.revision c.args.parts.now.host c.grow.new.host c.enter_batch.new.parts.host
-    c.args.parts.now.view c.grow.new.view c.enter_batch.new.parts.view c.as_slice.result.now b.out.items
-    c.enter_batch.ensures.host c.enter_batch.ensures.view c.as_slice.ensures.value c.in-Ok.ensures.files c.in-Ok.ensures.shown in (
+pub returns-clause-gives : goal.returns-clause-gives
+returns-clause-gives g c =
+    let b = c.in_ok-tail.field-0 in (
       ap (λ n. n + length c.args.items.now) c.requires.seq,
       batched g.H.Host.tells c.args.at.now.store c.args.numbers.0 c.args.numbers.1 c.args.items.now b.pending.items
           (moment_of (g.H.Host.disk c.args.parts.now.host) (g.H.View.View.content c.args.parts.now.view) (g.H.Host.faults c.args.parts.now.host) (g.H.View.View.faults c.args.parts.now.view) c.args.parts.now)
+          (moment_of (g.H.Host.disk c.grow_or_stop.new.parts.host) (g.H.View.View.content c.grow_or_stop.new.parts.view) (g.H.Host.faults c.grow_or_stop.new.parts.host) (g.H.View.View.faults c.grow_or_stop.new.parts.view) c.grow_or_stop.new.parts)
           (moment_of (g.H.Host.disk c.enter_batch.new.parts.host) (g.H.View.View.content c.enter_batch.new.parts.view) (g.H.Host.faults c.enter_batch.new.parts.host) (g.H.View.View.faults c.enter_batch.new.parts.view) c.enter_batch.new.parts)
-          b.tail c.put_batch.new.wal.entries b.out.items c.requires.seq c.requires.documents c.put_batch.ensures.entries c.in_ok-tail.ensures.put
-          c.enter_batch.ensures.entries c.enter_batch.ensures.rest lies.0 lies.1,
+          c.put_batch.new.wal b.tail b.out.items c.as_slice.result.now c.requires.seq c.requires.documents c.put_batch.ensures.entries c.in_ok-tail.ensures.put
+          c.in_ok-grow_or_stop.ensures.kept (ap g.H.Host.disk c.enter_batch.ensures.host) (ap g.H.View.View.content c.enter_batch.ensures.view)
+          c.as_slice.ensures.value c.in_ok-grow_or_stop.ensures.files c.in_ok-grow_or_stop.ensures.shown
+          c.enter_batch.ensures.entries c.enter_batch.ensures.rest,
     )

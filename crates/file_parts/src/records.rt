@@ -1,42 +1,52 @@
-ghost use Rattle.std.specs.Prelude.{◌≡◌, ◌≢◌, ◌⊎◌, ◌≤◌, ◌<◌, ◌+◌, ◌^◌, [], length, IsTrue, Some, Err, IfOk, IfErr, OnOk, OnErr};
-ghost use Rattle.doc_stream.specs.OpenBlock.{PutsBytes};
+ghost use Rattle.std.specs.Prelude.{◌≡◌, ◌≢◌, ◌≤◌, ◌<◌, ◌+◌, ◌^◌, length, IsTrue, Some, Err, IfOk, IfErr, OnOk, OnErr};
+ghost use Rattle.doc_stream.specs.OpenBlock.{address_of};
 ghost use Rattle.doc_stream.specs.Records.{is_record, record_bytes};
 ghost use Rattle.file_parts.specs.Held.{held};
 ghost use Rattle.file_parts.specs.Moment.{Aside, moment_of};
-ghost use Rattle.file_stores.specs.StoreChanges.{PutsRecord, NotPut};
+ghost use Rattle.file_parts.specs.Records.{PutsRecord, NotPut};
 ghost use Rattle.forest_model.specs.declared.refusal.Refusal.TheVariants as Refusal;
 
-use block_host::{Block, Failed, Host};
-use doc_stream::Tail;
-use file_parts::{MOST_BLOCKS, Parts, grow};
+use crate::Parts;
+use crate::writes::{MOST_BLOCKS, grow_or_stop};
+use block_host::Host;
 use forest_model::{Bytes, Rec, Refusal};
 use std::alloc::Global;
 
-// The record of a store, with its name as the key.
-pub(crate) fn record_of(alloc: Global, kind: u8, store: u64, name: &[u8]) -> Result<Rec, Refusal>
-    ensures record { IfOk result (λ rec. rec ≡ record { kind = kind; store = store; seq = 0; key = name.now; meta = []; body = [] }) }
+/// A record of these parts, which it has copies of.
+pub fn record_of(
+    alloc: Global,
+    kind: u8,
+    store: u64,
+    seq: u64,
+    key: &[u8],
+    meta: &[u8],
+    body: &[u8],
+) -> Result<Rec, Refusal>
+    ensures record { IfOk result (λ rec. rec ≡ record { kind = kind; store = store; seq = seq; key = key.now; meta = meta.now; body = body.now }) }
     ensures memory { OnErr result (result ≡ Err Refusal.NoMemory) }
 {
     Ok(Rec {
         kind,
         store,
-        seq: 0,
-        key: Bytes::copy_of(alloc, name)?,
-        meta: Bytes::new(alloc),
-        body: Bytes::new(alloc),
+        seq,
+        key: Bytes::copy_of(alloc, key)?,
+        meta: Bytes::copy_of(alloc, meta)?,
+        body: Bytes::copy_of(alloc, body)?,
     })
 }
 
-// Puts a record into the open block and the blocks that fill into the file.
-pub(crate) fn append<H: Host>(
+/// Puts a record of so many bytes into the open block and the blocks that fill into the file, and answers its address. The
+/// memory for these blocks is taken first; a host that fails stops the file.
+pub fn append<H: Host>(
     alloc: Global,
     parts: &mut Parts<H>,
     rec: &Rec,
     len: u64,
-) -> Result<(), Refusal>
+) -> Result<u64, Refusal>
     requires is_record { IsTrue (is_record rec.now) }
     requires len { len ≡ length (record_bytes rec.now) }
     requires small { len ≤ 2 ^ 21 }
+    ensures address { IfOk result (λ address. address ≡ address_of parts.old.tail.number (length parts.old.tail.bytes)) }
     ensures puts { OnOk result (PutsRecord H.tells rec.now
         (moment_of (H.disk parts.old.host) (H.View.content parts.old.view) (H.faults parts.old.host) (H.View.faults parts.old.view) parts.old)
         (moment_of (H.disk parts.new.host) (H.View.content parts.new.view) (H.faults parts.new.host) (H.View.faults parts.new.view) parts.new)) }
@@ -53,51 +63,21 @@ pub(crate) fn append<H: Host>(
     ensures opened { parts.new.opened ≡ parts.old.opened }
     ensures damaged { parts.new.damaged ≡ parts.old.damaged }
 {
-    let out = take(alloc, &mut parts.tail, parts.revision, rec, len)?;
-    match grow(
-        &mut parts.host,
-        &mut parts.view,
-        parts.revision,
-        out.as_slice(),
-    ) {
-        Ok(()) => Ok(()),
-        Err(Failed) => {
-            parts.stopped = Some(parts.host.faults());
-            Err(Refusal::DiskFault)
-        }
-    }
-}
-
-// Puts a record, with the memory for the blocks that fill.
-fn take(
-    alloc: Global,
-    tail: &mut Tail,
-    revision: u64,
-    rec: &Rec,
-    len: u64,
-) -> Result<Vec<Block>, Refusal>
-    requires is_record { IsTrue (is_record rec.now) }
-    requires len { len ≡ length (record_bytes rec.now) }
-    requires small { len ≤ 2 ^ 21 }
-    ensures put { IfOk result (λ out. PutsBytes revision (record_bytes rec.now) tail.old tail.new [] out.items) }
-    ensures memory { OnErr result ((result ≡ Err Refusal.NoMemory) ⊎ (2 ^ 32 < tail.old.number)) }
-    ensures no_fault { result ≢ Err Refusal.DiskFault }
-    ensures kept { OnErr result (tail.new ≡ tail.old) }
-{
-    if tail.number() > MOST_BLOCKS {
+    if parts.tail.number() > MOST_BLOCKS {
         return Err(Refusal::FileFull {
-            used: tail.number(),
-            needed: tail.needed(len),
+            used: parts.tail.number(),
+            needed: parts.tail.needed(len),
             max: MOST_BLOCKS,
         });
     }
     let mut out = Vec::new(alloc);
-    let _address = tail.put(rec, revision, &mut out)?;
-    Ok(out)
+    let address = parts.tail.put(rec, parts.revision, &mut out)?;
+    grow_or_stop(parts, out.as_slice())?;
+    Ok(address)
 }
 
-// Goes on one place, behind the records that were put.
-pub(crate) fn advance<H: Host>(parts: &mut Parts<H>)
+/// Goes on one place, behind the records that were put.
+pub fn advance<H: Host>(parts: &mut Parts<H>)
     requires place { parts.old.place + 1 < 2 ^ 62 }
     ensures rest { held parts.new ≡ record (held parts.old) {
       blocks = parts.old.tail.number;
