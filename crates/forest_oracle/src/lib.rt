@@ -8,5 +8,6 @@
 
 mod oracle;
 
-pub use oracle::Oracle;
-pub use oracle::{commit_at, copy_of_stores, doc_at, found_of, is_wrong_key, store_of, ticket_of};
+pub use oracle::{
+    Oracle, commit_at, copy_of_stores, doc_at, found_of, is_wrong_key, store_of, ticket_of,
+};
