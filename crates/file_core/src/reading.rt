@@ -1,6 +1,6 @@
 ghost use Rattle.std.specs.Prelude.{◌≡◌, ◌≢◌, ◌≤◌, ℕ, List, IsTrue, IfOk, IfErr, Some, Err};
 ghost use Rattle.doc_stream.specs.Causes.{BreaksRecord};
-ghost use Rattle.file_core.specs.Reads.{ReadsFrom};
+ghost use Rattle.file_core.specs.Reads.{ReadsFrom, read_leaves, read_notes, refused_leaves, refused_notes};
 ghost use Rattle.file_core.specs.Stands.{Stands};
 ghost use Rattle.file_parts.specs.Held.{held};
 ghost use Rattle.file_parts.specs.Lookup.{FindsRecord, IsNumbered};
@@ -18,7 +18,7 @@ use file_parts::{entry_of_key, entry_of_number, find_record, info_of};
 use forest_model::{Entry, Found, Info, Refusal, StoreRef};
 
 impl<H: Host> FileState<H> {
-    /// The document of a key.
+    /// The document of a key. A failed disk and a damaged block stop the file.
     pub fn get(&mut self, at: &StoreRef, key: &[u8]) -> Result<Found, Refusal>
         ensures reads { ReadsFrom H.tells (held self.old.parts) (H.disk self.old.parts.host)
             (H.View.content self.old.parts.view) (H.View.faults self.old.parts.view) (H.View.faults self.new.parts.view)
@@ -27,7 +27,9 @@ impl<H: Host> FileState<H> {
         ensures damaged { (block : ℕ) → result ≡ Err (Refusal.Damaged self.old.parts.revision block) → IsTrue H.tells
             → (e : Entry) × (entry_at self.old.parts.wal.entries at.now.store key.now ≡ Some e)
             × BreaksRecord self.old.parts.revision (H.View.content self.old.parts.view) self.old.parts.tail e.address block }
-        ensures held { held self.new.parts ≡ held self.old.parts }
+        ensures left { held self.new.parts ≡ read_leaves (H.faults self.old.parts.host) (held self.old.parts) result }
+        ensures noted { self.new.parts.damaged ≡ read_notes self.old.parts.damaged result }
+        ensures opened { self.new.parts.opened ≡ self.old.parts.opened }
         ensures host { self.new.parts.host ≡ self.old.parts.host }
         ensures content { IsTrue H.tells → H.View.content self.new.parts.view ≡ H.View.content self.old.parts.view }
         ensures counts { H.View.faults self.old.parts.view ≤ H.View.faults self.new.parts.view }
@@ -37,7 +39,7 @@ impl<H: Host> FileState<H> {
         self.document(entry)
     }
 
-    /// The document of a store's number.
+    /// The document of a store's number. A failed disk and a damaged block stop the file.
     pub fn by_seq(&mut self, at: &StoreRef, seq: u64) -> Result<Found, Refusal>
         ensures reads { ReadsFrom H.tells (held self.old.parts) (H.disk self.old.parts.host)
             (H.View.content self.old.parts.view) (H.View.faults self.old.parts.view) (H.View.faults self.new.parts.view)
@@ -46,7 +48,9 @@ impl<H: Host> FileState<H> {
         ensures damaged { (block : ℕ) → result ≡ Err (Refusal.Damaged self.old.parts.revision block) → IsTrue H.tells
             → (key : List ℕ) × (e : Entry) × IsNumbered self.old.parts.wal.entries at.now.store seq key e
             × BreaksRecord self.old.parts.revision (H.View.content self.old.parts.view) self.old.parts.tail e.address block }
-        ensures held { held self.new.parts ≡ held self.old.parts }
+        ensures left { held self.new.parts ≡ read_leaves (H.faults self.old.parts.host) (held self.old.parts) result }
+        ensures noted { self.new.parts.damaged ≡ read_notes self.old.parts.damaged result }
+        ensures opened { self.new.parts.opened ≡ self.old.parts.opened }
         ensures host { self.new.parts.host ≡ self.old.parts.host }
         ensures content { IsTrue H.tells → H.View.content self.new.parts.view ≡ H.View.content self.old.parts.view }
         ensures counts { H.View.faults self.old.parts.view ≤ H.View.faults self.new.parts.view }
@@ -60,20 +64,47 @@ impl<H: Host> FileState<H> {
     fn document(&mut self, entry: Entry) -> Result<Found, Refusal>
         ensures finds { FindsRecord H.View.tells self.old.parts.revision (H.View.content self.old.parts.view) self.old.parts.tail
             entry (H.View.faults self.old.parts.view) (H.View.faults self.new.parts.view) result }
-        ensures held { held self.new.parts ≡ held self.old.parts }
+        ensures left { held self.new.parts ≡ read_leaves (H.faults self.old.parts.host) (held self.old.parts) result }
+        ensures noted { self.new.parts.damaged ≡ read_notes self.old.parts.damaged result }
+        ensures opened { self.new.parts.opened ≡ self.old.parts.opened }
         ensures host { self.new.parts.host ≡ self.old.parts.host }
         ensures content { IsTrue H.View.tells → H.View.content self.new.parts.view ≡ H.View.content self.old.parts.view }
         ensures counts { H.View.faults self.old.parts.view ≤ H.View.faults self.new.parts.view }
         ensures untroubled { result ≢ Err Refusal.DiskFault → H.View.faults self.new.parts.view ≡ H.View.faults self.old.parts.view }
     {
         let parts = &mut self.parts;
-        find_record(
+        let found = find_record(
             self.alloc,
             &mut parts.view,
             &parts.tail,
             parts.revision,
             entry,
-        )
+        );
+        match found {
+            Ok(found) => Ok(found),
+            Err(why) => {
+                self.stop_by(why);
+                Err(why)
+            },
+        }
+    }
+
+    // Notes the stop, where this refusal of a read stops the file.
+    fn stop_by(&mut self, why: Refusal)
+        ensures left { held self.new.parts ≡ refused_leaves (H.faults self.old.parts.host) (held self.old.parts) why }
+        ensures noted { self.new.parts.damaged ≡ refused_notes self.old.parts.damaged why }
+        ensures opened { self.new.parts.opened ≡ self.old.parts.opened }
+        ensures host { self.new.parts.host ≡ self.old.parts.host }
+        ensures view { self.new.parts.view ≡ self.old.parts.view }
+    {
+        match why {
+            Refusal::DiskFault => self.parts.stopped = Some(self.parts.host.faults()),
+            Refusal::Damaged { file, block } => {
+                self.parts.stopped = Some(self.parts.host.faults());
+                self.parts.damaged = Some((file, block));
+            },
+            _ => {},
+        }
     }
 
     /// What a store and the file are at.

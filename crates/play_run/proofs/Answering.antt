@@ -2,7 +2,7 @@
 use Rattle.std.proofs.Common.{◌≡◌, ℕ, ◌≤◌, Bool, refl, sym, ap, subst, ◌∙◌, arith, inl, inr}
 use Rattle.std.specs.Prelude.{◌≢◌, ◌⊎◌, IsTrue, Some, Result, Ok, Err, IfOk, IfErr, OnOk}
 use Rattle.file_parts.specs.Held.{Held}
-use Rattle.file_core.specs.Reads.{ReadsAs, ReadFails}
+use Rattle.file_core.specs.Reads.{ReadsAs, ReadFails, refused_leaves}
 use Rattle.file_parts.specs.Moment.{Moment}
 use Rattle.file_core.specs.Updates.{StandsAt, IsFile, Troubled, UpdatesAs, CommitsAs}
 use Rattle.forest_model.specs.Blocks.{File}
@@ -183,10 +183,16 @@ unmoved_stands told old new s f same st =
     subst (λ (p : Held). StandsFor told (record { held = p; disk = new.disk; blocks = new.file }) s f) (sym same.held)
     (standing_kept told old.held old.disk new.disk old.file new.file (λ _. same.files) same.shown s f st)
 
-module _ (told : Bool) (verb : Verb) (call : Call) (at : StoreRef) (old new : Moment) (same : Unmoved told old new) (is_call : call_at at verb ≡ Some call) (room : (s : State) (f : File) → step_of s f call ≡ step_with_room s call) where
-  pub read_found : (found : Found) (say : Found → Said) → ((x : Found) → said_of verb (Document x) ≡ say x)
+-- a refused read whose refusal has a text leaves what is in memory
+pub text_leaves : (faults : ℕ) (p : Held) (why : Refusal) → HasText why → refused_leaves faults p why ≡ p
+text_leaves faults p refusal.DiskFault text = absurd text
+text_leaves faults p (refusal.Damaged file block) text = absurd text
+text_leaves faults p why text = refl
+
+module _ (told : Bool) (verb : Verb) (call : Call) (at : StoreRef) (old new : Moment) (is_call : call_at at verb ≡ Some call) (room : (s : State) (f : File) → step_of s f call ≡ step_with_room s call) where
+  pub read_found : Unmoved told old new → (found : Found) (say : Found → Said) → ((x : Found) → said_of verb (Document x) ≡ say x)
       → ((s : State) → StandsAt told old s → ReadsAs told s call old.held.revision old.view_faults new.view_faults (Ok found)) → Answers told verb at at (opened_at old) (opened_at new) (say found)
-  read_found found say is reads = record {
+  read_found same found say is reads = record {
     call = call;
     is_call = is_call;
     steps = λ s f st.
@@ -197,45 +203,45 @@ module _ (told : Bool) (verb : Verb) (call : Call) (at : StoreRef) (old new : Mo
   }
 
   -- a read that fails has no text, and a fault is the view's
-  fails : (why : Refusal) → ReadFails told old.held.revision old.view_faults new.view_faults why → (NoFault Found (Err why) → new.view_faults ≡ old.view_faults) → Reasons told old new why
-  fails why (inl r) untroubled = inr (inl (r, λ i. record { host = same.host i; view = untroubled (no_fault_by Found why refusal.NoMemory r (λ e. cc)) i }))
-  fails why (inr (inl r)) untroubled = inr (inr (inl (r.0, inr (omega (arith, same.host), r.1))))
-  fails why (inr (inr r)) untroubled =
-      inr (inr (inr (old.held.revision, r.0, r.1, λ i. record { host = same.host i; view = untroubled (no_fault_by Found why (refusal.Damaged old.held.revision r.0) r.1 (λ e. cc)) i }, r.2)))
+  fails : new.host_faults ≡ old.host_faults → (why : Refusal) → ReadFails told old.held.revision old.view_faults new.view_faults why → (NoFault Found (Err why) → new.view_faults ≡ old.view_faults) → Reasons told old new why
+  fails host why (inl r) untroubled = inr (inl (r, λ i. record { host = host i; view = untroubled (no_fault_by Found why refusal.NoMemory r (λ e. cc)) i }))
+  fails host why (inr (inl r)) untroubled = inr (inr (inl (r.0, inr (omega (arith, host), r.1))))
+  fails host why (inr (inr r)) untroubled =
+      inr (inr (inr (old.held.revision, r.0, r.1, λ i. record { host = host i; view = untroubled (no_fault_by Found why (refusal.Damaged old.held.revision r.0) r.1 (λ e. cc)) i }, r.2)))
 
   no_text : (why : Refusal) → ReadFails told old.held.revision old.view_faults new.view_faults why → HasText why → ⊥
   no_text why (inl r) text = subst HasText r text
   no_text why (inr (inl r)) text = subst HasText r.0 text
   no_text why (inr (inr r)) text = subst HasText r.1 text
 
-  read_text : (why : Refusal) → ((s : State) → StandsAt told old s → ReadsAs told s call old.held.revision old.view_faults new.view_faults (Err why)) → HasText why
+  read_text : (why : Refusal) → (HasText why → Unmoved told old new) → ((s : State) → StandsAt told old s → ReadsAs told s call old.held.revision old.view_faults new.view_faults (Err why)) → HasText why
       → Answers told verb at at (opened_at old) (opened_at new) (says.Refused why)
-  read_text why reads text = record {
+  read_text why same reads text = record {
     call = call;
     is_call = is_call;
     steps = λ s f st. elim (reads s st.stands).reason [
-      | inl e ↦ refused_steps told verb call at (opened_at new) s f why (ap (λ (o : Outcome). o.0) (room s f ∙ e)) (unmoved_stands told old new s f same st)
+      | inl e ↦ refused_steps told verb call at (opened_at new) s f why (ap (λ (o : Outcome). o.0) (room s f ∙ e)) (unmoved_stands told old new s f (same text) st)
       | inr r ↦ absurd (no_text why r text)
     ];
   }
 
-  read_reasons : (why : Refusal) → ((s : State) → StandsAt told old s → ReadsAs told s call old.held.revision old.view_faults new.view_faults (Err why)) → Somewhere told old
+  read_reasons : new.host_faults ≡ old.host_faults → (why : Refusal) → ((s : State) → StandsAt told old s → ReadsAs told s call old.held.revision old.view_faults new.view_faults (Err why)) → Somewhere told old
       → (NoFault Found (Err why) → new.view_faults ≡ old.view_faults) → Reasons told old new why
-  read_reasons why reads somewhere untroubled = elim (reads somewhere.0 somewhere.2.stands).reason [
+  read_reasons host why reads somewhere untroubled = elim (reads somewhere.0 somewhere.2.stands).reason [
     | inl e ↦ inl (step_leaves somewhere.0 somewhere.1 call why (ap (λ (o : Outcome). o.0) (room somewhere.0 somewhere.1 ∙ e))).0
-    | inr r ↦ fails why r untroubled
+    | inr r ↦ fails host why r untroubled
   ]
 
-  pub read_refused : (why : Refusal) (result : Result Said Ended) → result ≡ said_or_ended why
+  pub read_refused : (why : Refusal) (result : Result Said Ended) → result ≡ said_or_ended why → (HasText why → Unmoved told old new) → new.host_faults ≡ old.host_faults
       → ((s : State) → StandsAt told old s → ReadsAs told s call old.held.revision old.view_faults new.view_faults (Err why)) → Somewhere told old
       → (NoFault Found (Err why) → new.view_faults ≡ old.view_faults) → Refuses told verb at old new result
-  read_refused why result is reads somewhere untroubled =
-      refuses_by told verb at old new why result is (read_text why reads) (λ text. (same.host, untroubled (no_fault Found why text))) (read_reasons why reads somewhere untroubled)
+  read_refused why result is same host reads somewhere untroubled =
+      refuses_by told verb at old new why result is (read_text why same reads) (λ text. (host, untroubled (no_fault Found why text))) (read_reasons host why reads somewhere untroubled)
 
   -- the same where the reply alone is known
-  pub reply_told : (reply : Reply) (said : Said) → said_of verb reply ≡ said → store_after at reply ≡ at → ((s : State) → StandsAt told old s → step_with_room s call ≡ (reply, s))
+  pub reply_told : Unmoved told old new → (reply : Reply) (said : Said) → said_of verb reply ≡ said → store_after at reply ≡ at → ((s : State) → StandsAt told old s → step_with_room s call ≡ (reply, s))
       → Answers told verb at at (opened_at old) (opened_at new) said
-  reply_told reply said is stays replies = record {
+  reply_told same reply said is stays replies = record {
     call = call;
     is_call = is_call;
     steps = λ s f st.
@@ -244,8 +250,8 @@ module _ (told : Bool) (verb : Verb) (call : Call) (at : StoreRef) (old new : Mo
         (λ _. sym (ap (λ (o : Outcome). said_of verb o.0) there ∙ is)) stays (unmoved_stands told old new s f same st);
   }
 
-  pub reply_refused : (why : Refusal) (result : Result Said Ended) → result ≡ said_or_ended why → ((s : State) → StandsAt told old s → step_with_room s call ≡ (Refused why, s)) → Somewhere told old
+  pub reply_refused : Unmoved told old new → (why : Refusal) (result : Result Said Ended) → result ≡ said_or_ended why → ((s : State) → StandsAt told old s → step_with_room s call ≡ (Refused why, s)) → Somewhere told old
       → new.view_faults ≡ old.view_faults → Refuses told verb at old new result
-  reply_refused why result is replies somewhere view =
-      refuses_by told verb at old new why result is (λ _. reply_told (Refused why) (says.Refused why) refl refl replies) (λ _. (same.host, view))
+  reply_refused same why result is replies somewhere view =
+      refuses_by told verb at old new why result is (λ _. reply_told same (Refused why) (says.Refused why) refl refl replies) (λ _. (same.host, view))
       (inl (step_leaves somewhere.0 somewhere.1 call why (ap (λ (o : Outcome). o.0) (room somewhere.0 somewhere.1 ∙ replies somewhere.0 somewhere.2.stands))).0)

@@ -1,9 +1,10 @@
-use Rattle.std.proofs.Common.{refl, ap}
+use Rattle.std.proofs.Common.{refl, ap, ◌∙◌}
+use Rattle.file_parts.specs.Held.{held}
 use Rattle.file_parts.specs.Moment.{moment_of}
 use Rattle.forest_model.specs.declared.call.Call.TheVariants as calls
 use Rattle.forest_model.specs.declared.line.Said.TheVariants as says
 use Rattle.forest_model.specs.declared.line.Verb.TheVariants as verbs
-use Rattle.play_run.proofs.Answering.{read_found, read_refused}
+use Rattle.play_run.proofs.Answering.{read_found, read_refused, text_leaves}
 use Rattle.play_run.proofs.verbs.by_seq.Goals as goal
 
 pub returns-in-Ok-clause-answers : goal.returns-in-Ok-clause-answers
@@ -13,8 +14,9 @@ returns-in-Ok-clause-answers g c =
     let old = moment_of (g.H.Host.disk before.host) (g.H.View.View.content before.view) (g.H.Host.faults before.host) (g.H.View.View.faults before.view) before in
     let new = moment_of (g.H.Host.disk after.host) (g.H.View.View.content after.view) (g.H.Host.faults after.host) (g.H.View.View.faults after.view) after in
     read_found g.H.Host.tells (verbs.BySeq c.args.seq) (calls.BySeq c.args.at.now c.args.seq) c.args.at.now old new
-    (record { held = c.by_seq.ensures.held; files = ap (λ h. (g.H.Host.disk h).files) c.by_seq.ensures.host; shown = c.by_seq.ensures.content; host = ap g.H.Host.faults c.by_seq.ensures.host })
-    refl (λ s f. refl) c.in-Ok.found says.At (λ found. refl) c.in-Ok.ensures.reads
+    refl (λ s f. refl)
+    (record { held = c.in-Ok.ensures.left; files = ap (λ h. (g.H.Host.disk h).files) c.by_seq.ensures.host; shown = c.by_seq.ensures.content; host = ap g.H.Host.faults c.by_seq.ensures.host })
+    c.in-Ok.found says.At (λ found. refl) c.in-Ok.ensures.reads
 
 pub returns-in-Err : goal.returns-in-Err
 returns-in-Err g c =
@@ -24,6 +26,8 @@ returns-in-Err g c =
     let new = moment_of (g.H.Host.disk after.host) (g.H.View.View.content after.view) (g.H.Host.faults after.host) (g.H.View.View.faults after.view) after in
     let r =
     read_refused g.H.Host.tells (verbs.BySeq c.args.seq) (calls.BySeq c.args.at.now c.args.seq) c.args.at.now old new
-    (record { held = c.by_seq.ensures.held; files = ap (λ h. (g.H.Host.disk h).files) c.by_seq.ensures.host; shown = c.by_seq.ensures.content; host = ap g.H.Host.faults c.by_seq.ensures.host })
-    refl (λ s f. refl) c.in-Err.why c.refused.result c.refused.ensures.exact c.in-Err.ensures.reads c.requires.somewhere c.in-Err.ensures.untroubled in
+    refl (λ s f. refl)
+    c.in-Err.why c.refused.result c.refused.ensures.exact
+    (λ text. record { held = c.in-Err.ensures.left ∙ text_leaves (g.H.Host.faults before.host) (held before) c.in-Err.why text; files = ap (λ h. (g.H.Host.disk h).files) c.by_seq.ensures.host; shown = c.by_seq.ensures.content; host = ap g.H.Host.faults c.by_seq.ensures.host }) (ap g.H.Host.faults c.by_seq.ensures.host)
+    c.in-Err.ensures.reads c.requires.somewhere c.in-Err.ensures.untroubled in
     record { answers = r.answers; spelled = r.spelled; stop = r.stop; line = r.line; silent = λ _. ap (λ h. (g.H.Host.disk h).said) c.by_seq.ensures.host; untroubled = r.untroubled; faults = r.faults }

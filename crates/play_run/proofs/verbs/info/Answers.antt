@@ -14,8 +14,9 @@ returns-in-Ok-clause-answers g c =
     let old = moment_of (g.H.Host.disk before.host) (g.H.View.View.content before.view) (g.H.Host.faults before.host) (g.H.View.View.faults before.view) before in
     let new = moment_of (g.H.Host.disk after.host) (g.H.View.View.content after.view) (g.H.Host.faults after.host) (g.H.View.View.faults after.view) after in
     reply_told g.H.Host.tells verbs.Info (calls.Info c.args.at.now) c.args.at.now old new
+    refl (λ s f. refl)
     (record { held = c.info.ensures.held; files = ap (λ h. (g.H.Host.disk h).files) c.info.ensures.host; shown = λ _. ap g.H.View.View.content c.info.ensures.view; host = ap g.H.Host.faults c.info.ensures.host })
-    refl (λ s f. refl) (replies.InfoIs c.in-Ok.info) (says.InfoIs c.in-Ok.info) refl refl c.in-Ok.ensures.told
+    (replies.InfoIs c.in-Ok.info) (says.InfoIs c.in-Ok.info) refl refl c.in-Ok.ensures.told
 
 pub returns-in-Err : goal.returns-in-Err
 returns-in-Err g c =
@@ -25,6 +26,7 @@ returns-in-Err g c =
     let new = moment_of (g.H.Host.disk after.host) (g.H.View.View.content after.view) (g.H.Host.faults after.host) (g.H.View.View.faults after.view) after in
     let r =
     reply_refused g.H.Host.tells verbs.Info (calls.Info c.args.at.now) c.args.at.now old new
+    refl (λ s f. refl)
     (record { held = c.info.ensures.held; files = ap (λ h. (g.H.Host.disk h).files) c.info.ensures.host; shown = λ _. ap g.H.View.View.content c.info.ensures.view; host = ap g.H.Host.faults c.info.ensures.host })
-    refl (λ s f. refl) c.in-Err.why c.refused.result c.refused.ensures.exact c.in-Err.ensures.refused c.requires.somewhere (ap g.H.View.View.faults c.info.ensures.view) in
+    c.in-Err.why c.refused.result c.refused.ensures.exact c.in-Err.ensures.refused c.requires.somewhere (ap g.H.View.View.faults c.info.ensures.view) in
     record { answers = r.answers; spelled = r.spelled; stop = r.stop; line = r.line; silent = λ _. ap (λ h. (g.H.Host.disk h).said) c.info.ensures.host; untroubled = r.untroubled; faults = r.faults }
