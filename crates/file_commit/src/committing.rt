@@ -24,8 +24,9 @@ const FIRST_WORN: u64 = (1 << 62) - 1;
 const MOST_BLOCKS: u64 = 1 << 40;
 
 /// Commits what is new: the open block, if it has bytes, and once that is on the disk the header of the commit. Answers the
-/// commit's number, that of the last one where nothing is new. It takes no memory. Once it has put a header, a crash
-/// leaves of the file only what reads give.
+/// commit's number, that of the last one where nothing is new. Once it has put a header, a crash leaves of the file only
+/// what reads give. Refused are a file that has stopped, a reference for reading and a worn number, in this order; then a
+/// host that fails, which stops the file. It takes no memory, and is never refused for want of room.
 pub fn commit<H: Host>(file: &mut FileState<H>, at: &StoreRef) -> Result<u64, Refusal>
     ensures commits { (s : State) (f : File)
         → StandsAt H.tells (moment_of (H.disk file.old.parts.host) (H.View.content file.old.parts.view) (H.faults file.old.parts.host) (H.View.faults file.old.parts.view) file.old.parts) s

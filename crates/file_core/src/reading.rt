@@ -18,7 +18,9 @@ use file_parts::{entry_of_key, entry_of_number, find_record, info_of};
 use forest_model::{Entry, Found, Info, Refusal, StoreRef};
 
 impl<H: Host> FileState<H> {
-    /// The document of a key. A failed disk and a damaged block stop the file.
+    /// The document of a key. Refused are a file that has stopped, a key that hasn't 1 to 3,500 bytes, a store that isn't
+    /// there and a key without a document, in this order; then want of memory, and a view that fails or a damaged block of
+    /// the document's record, which stop the file.
     pub fn get(&mut self, at: &StoreRef, key: &[u8]) -> Result<Found, Refusal>
         ensures reads { ReadsFrom H.tells (held self.old.parts) (H.disk self.old.parts.host)
             (H.View.content self.old.parts.view) (H.View.faults self.old.parts.view) (H.View.faults self.new.parts.view)
@@ -39,7 +41,9 @@ impl<H: Host> FileState<H> {
         self.document(entry)
     }
 
-    /// The document of a store's number. A failed disk and a damaged block stop the file.
+    /// The document of a store's number. Refused are a file that has stopped, a store that isn't there and a number without a
+    /// document, in this order; then want of memory, and a view that fails or a damaged block of the document's record,
+    /// which stop the file.
     pub fn by_seq(&mut self, at: &StoreRef, seq: u64) -> Result<Found, Refusal>
         ensures reads { ReadsFrom H.tells (held self.old.parts) (H.disk self.old.parts.host)
             (H.View.content self.old.parts.view) (H.View.faults self.old.parts.view) (H.View.faults self.new.parts.view)
@@ -107,7 +111,8 @@ impl<H: Host> FileState<H> {
         }
     }
 
-    /// What a store and the file are at.
+    /// What a store and the file are at. Refused are a file that has stopped and a store that isn't there, in this order. It
+    /// reads memory alone.
     pub fn info(&mut self, at: &StoreRef) -> Result<Info, Refusal>
         ensures told { (s : State)
             → Stands H.tells (held self.old.parts) (H.disk self.old.parts.host) (H.View.content self.old.parts.view) s

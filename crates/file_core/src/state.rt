@@ -43,7 +43,8 @@ fn floor_of(floor: u64, live: u64) -> u64
     live / 4064 + begun + 1
 }
 
-/// An open file.
+/// An open file. A call that fails by the disk or by a damaged block stops it: every later one but `layout`, `updates` and
+/// `close` is refused as stopped, and the file is opened again.
 pub struct FileState<H: Host> {
     pub parts: Parts<H>,
     pub(crate) alloc: Global,

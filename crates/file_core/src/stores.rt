@@ -16,7 +16,9 @@ use forest_model::{Refusal, StoreRef};
 use model_laws::{record_blocks, rules};
 
 impl<H: Host> FileState<H> {
-    /// Opens the store of a name, which is made where it isn't there.
+    /// Opens the store of a name, which is made where it isn't there. Refused are a file that has stopped and a name that is
+    /// none; and where no store has this name a reference for reading, a worn number, the 65th store and a full file, in this
+    /// order, then want of memory, and a host that fails, which stops the file.
     pub fn store_open(&mut self, name: &[u8], read_only: bool) -> Result<StoreRef, Refusal>
         ensures updates { (s : State) (f : File) → StandsAt H.tells (moment_of (H.disk self.old.parts.host) (H.View.content self.old.parts.view) (H.faults self.old.parts.host) (H.View.faults self.old.parts.view) self.old.parts) s
             → IsFile H.tells (held self.old.parts) (H.View.content self.old.parts.view) f
@@ -43,7 +45,9 @@ impl<H: Host> FileState<H> {
         open_store(self.alloc, &mut self.parts, name, read_only)
     }
 
-    /// Removes the store of a name with its documents, and answers its id.
+    /// Removes the store of a name with its documents, and answers its id. Refused are a file that has stopped, a reference
+    /// for reading, a name that is none or `default`, a name that no store has, a worn number and a full file, in this order;
+    /// then want of memory, and a host that fails, which stops the file.
     pub fn store_remove(&mut self, at: &StoreRef, name: &[u8]) -> Result<u64, Refusal>
         ensures updates { (s : State) (f : File) → StandsAt H.tells (moment_of (H.disk self.old.parts.host) (H.View.content self.old.parts.view) (H.faults self.old.parts.host) (H.View.faults self.old.parts.view) self.old.parts) s
             → IsFile H.tells (held self.old.parts) (H.View.content self.old.parts.view) f

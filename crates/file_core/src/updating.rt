@@ -16,7 +16,9 @@ use forest_model::{Item, Refusal, StoreRef};
 use model_laws::{record_blocks, rules};
 
 impl<H: Host> FileState<H> {
-    /// Sets a key, and answers the number that its document draws.
+    /// Sets a key, and answers the number that its document draws. Refused are a file that has stopped, a reference for
+    /// reading, a key that hasn't 1 to 3,500 bytes, more than 255 bytes of meta or 1,048,576 of body, a store that isn't
+    /// there, a worn number and a full file, in this order; then want of memory, and a host that fails, which stops the file.
     pub fn set(
         &mut self,
         at: &StoreRef,
@@ -50,7 +52,9 @@ impl<H: Host> FileState<H> {
         set(self.alloc, &mut self.parts, at, key, meta, body)
     }
 
-    /// Deletes a key, and answers the number that its deletion draws.
+    /// Deletes a key, and answers the number that its deletion draws. Refused are a file that has stopped, a reference for
+    /// reading, a key that hasn't 1 to 3,500 bytes, a store that isn't there, a worn number, a key without a document and a
+    /// full file, in this order; then want of memory, and a host that fails, which stops the file.
     pub fn delete(&mut self, at: &StoreRef, key: &[u8]) -> Result<u64, Refusal>
         ensures updates { (s : State) (f : File) → StandsAt H.tells (moment_of (H.disk self.old.parts.host) (H.View.content self.old.parts.view) (H.faults self.old.parts.host) (H.View.faults self.old.parts.view) self.old.parts) s
             → IsFile H.tells (held self.old.parts) (H.View.content self.old.parts.view) f
@@ -78,7 +82,9 @@ impl<H: Host> FileState<H> {
     }
 
     /// Makes 1 to 1,024 changes in their order and at one place, and answers the last number that they draw. If one of them
-    /// is refused, nothing is changed.
+    /// is refused, nothing is changed. Refused are a file that has stopped, a reference for reading, a wrong length of a key,
+    /// or of a meta or body, a store that isn't there, a worn number, a deletion of a key without a document and a full file,
+    /// in this order; then want of memory, and a host that fails, which stops the file.
     pub fn batch(&mut self, at: &StoreRef, items: &[Item]) -> Result<u64, Refusal>
         requires some { 1 ≤ length items.now }
         requires few { length items.now ≤ 1024 }

@@ -22,7 +22,8 @@ use wal_index::WalIndex;
 // The revision of a new store's file, and its number.
 const FILE: u64 = 1;
 
-/// Opens the new store that the host holds. The host isn't looked at: who calls has compared its files.
+/// Opens the new store that the host holds, for at most 2^32 blocks. The host isn't looked at: who calls has compared its
+/// files. Refused, with the host, for want of memory and where the host fails.
 pub fn open_new<H: Host>(
     alloc: Global,
     host: H,
