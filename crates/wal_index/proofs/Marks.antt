@@ -122,14 +122,13 @@ older_sorted (Some e) store key ns sorted = is_sorted-where_key number_cmp (λ m
 pub number_sorted : (ns ms : List (Numbered × Unit {0})) (k : Numbered) → T (finite.is_sorted number_cmp ns) → ms ≡ finite.put number_cmp k tt ns → T (finite.is_sorted number_cmp ms)
 number_sorted ns ms k sorted is = subst (λ (xs : List (Numbered × Unit {0})). T (finite.is_sorted number_cmp xs)) (sym is) (is_sorted-put number_cmp numbers_total k tt ns sorted)
 
-pub both_agree : (es es2 : List (DocKey × Entry)) (ns mid ms : List (Numbered × Unit {0})) (row : KeyEntry) (number : Numbered) (older : Option Entry) (store again : ℕ) (key copy : List ℕ) → Agree es ns
-    → number ≡ numbers_at row.store row.entry.seq row.key → store ≡ row.store → key ≡ row.key → again ≡ row.store → copy ≡ row.key → older ≡ finite.find key_cmp (key_at store key) es
-    → mid ≡ without_older older again copy ns → es2 ≡ finite.put key_cmp (key_at row.store row.key) row.entry es → ms ≡ finite.put number_cmp number tt mid → Agree es2 ms
-both_agree es es2 ns mid ms row number older store again key copy agree number_is store_is key_is again_is copy_is older_is mid_is es2_is ms_is n =
-    let found : older ≡ finite.find key_cmp (key_at row.store row.key) es = older_is ∙ ap (λ (s : ℕ). finite.find key_cmp (key_at s key) es) store_is ∙ ap (λ (k : List ℕ). finite.find key_cmp (key_at row.store k) es) key_is in
-    let rest : mid ≡ without_older older row.store row.key ns = mid_is ∙ ap (λ (s : ℕ). without_older older s copy ns) again_is ∙ ap (λ (k : List ℕ). without_older older row.store k ns) copy_is in
+pub both_agree : (es es2 : List (DocKey × Entry)) (ns mid ms : List (Numbered × Unit {0})) (row : KeyEntry) (number : Numbered) (older : Option Entry) (store : ℕ) (key : List ℕ) → Agree es ns
+    → number ≡ numbers_at row.store row.entry.seq row.key → store ≡ number.store → key ≡ number.key → older ≡ finite.find key_cmp (key_at row.store row.key) es
+    → mid ≡ without_older older store key ns → es2 ≡ finite.put key_cmp (key_at row.store row.key) row.entry es → ms ≡ finite.put number_cmp number tt mid → Agree es2 ms
+both_agree es es2 ns mid ms row number older store key agree number_is store_is key_is older_is mid_is es2_is ms_is n =
+    let rest : mid ≡ without_older older row.store row.key ns = mid_is ∙ ap (λ (s : ℕ). without_older older s key ns) store_is ∙ ap (λ (k : List ℕ). without_older older number.store k ns) key_is ∙ ap (λ (k : Numbered). without_older older k.store k.key ns) number_is in
     let made : ms ≡ finite.put number_cmp (numbers_at row.store row.entry.seq row.key) tt (without_older older row.store row.key ns) = ms_is ∙ ap (λ (k : Numbered). finite.put number_cmp k tt mid) number_is ∙ ap (finite.put number_cmp (numbers_at row.store row.entry.seq row.key) tt) rest in
-    ap (λ (xs : List (Numbered × Unit {0})). holds xs n) made ∙ agree_put es ns row.store row.key row.entry older agree found n ∙ ap (λ (xs : List (DocKey × Entry)). has xs n) (sym es2_is)
+    ap (λ (xs : List (Numbered × Unit {0})). holds xs n) made ∙ agree_put es ns row.store row.key row.entry older agree older_is n ∙ ap (λ (xs : List (DocKey × Entry)). has xs n) (sym es2_is)
 
 pub marks_sorted : (ns ms : List (Numbered × Unit {0})) (p : Numbered → Bool) → T (finite.is_sorted number_cmp ns) → ms ≡ filter (λ e. p e.0) ns → T (finite.is_sorted number_cmp ms)
 marks_sorted ns ms p sorted is = subst (λ (xs : List (Numbered × Unit {0})). T (finite.is_sorted number_cmp xs)) (sym is) (is_sorted-where_key number_cmp p ns sorted)

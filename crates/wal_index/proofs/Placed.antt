@@ -1,12 +1,18 @@
 -- Where a binary search finds a key.
-use Rattle.std.proofs.Common.{◌≡◌, ℕ, zero, suc, ◌<◌, ◌≤◌, T, List, length, map, refl, ap, subst, arith, get_or, ◌⊎◌, inl, inr}
+use Rattle.std.proofs.Common.{◌≡◌, ℕ, zero, suc, ◌<◌, ◌≤◌, T, List, length, map, refl, ap, ◌∙◌, subst, arith, get_or, ◌⊎◌, inl, inr}
 use Rattle.std.specs.Prelude.{Result, Ok, Err, IfOk, IfErr}
 use Rattle.std.specs.Cmp.{IsTotalOrder, tied_back}
 use Rattle.std.specs.FinMap as finite
+use Rattle.std.specs.Global.{Box}
 use Rattle.std.specs.List.Sorted.{IsBinarySearchResult, IsSearchInRange, IsNonDecreasingBy}
 use Rattle.std.specs.Ordering.{ordering_index}
 use Rattle.std.specs.declared.cmp.Ordering.{Ordering}
+use Rattle.forest_model.specs.Key.{key_cmp}
+use Rattle.forest_model.specs.declared.documents.DocKey.{DocKey}
+use Rattle.forest_model.specs.declared.stored.KeyEntry.{KeyEntry}
+use Rattle.wal_index.specs.Index.{key_at}
 use Rattle.wal_index.specs.Places.{IsAt, IsGap}
+use Rattle.wal_index.specs.Rows.{key_of}
 use Rattle.wal_index.proofs.Sorted.{rising, below_too, turned_less, turned_greater, before_tied, behind_tied}
 
 pub le_cases : (i j : ℕ) → i ≤ j → (i < j) ⊎ (i ≡ j)
@@ -46,3 +52,18 @@ module _ {K X A : Type 0} {R : K → K → Ordering} (o : IsTotalOrder R) (f : A
           behind = λ j d l m. turned_greater o _ q (parted.1 j d l m);
         };
       }
+
+-- ---- the place of a row's key, which was searched by copies of its parts
+
+key_is : (row : Box KeyEntry) (v w : KeyEntry) (key : List ℕ) → v ≡ row.value → w ≡ row.value → key ≡ w.key → key_at v.store key ≡ key_of row
+key_is row v w key v_is w_is is = ap (λ (r : KeyEntry). key_at r.store key) v_is ∙ ap (key_at row.value.store) (is ∙ ap (λ (r : KeyEntry). r.key) w_is)
+
+pub row_at : (row : Box KeyEntry) (rows seen : List (Box KeyEntry)) (at : ℕ) (v w : KeyEntry) (key : List ℕ) → seen ≡ rows → v ≡ row.value → w ≡ row.value → key ≡ w.key
+    → IsAt key_cmp key_of (key_at v.store key) seen at → IsAt key_cmp key_of (key_of row) rows at
+row_at row rows seen at v w key seen_is v_is w_is is h =
+    subst (λ (q : DocKey). IsAt key_cmp key_of q rows at) (key_is row v w key v_is w_is is) (subst (λ (rs : List (Box KeyEntry)). IsAt key_cmp key_of (key_at v.store key) rs at) seen_is h)
+
+pub row_gap : (row : Box KeyEntry) (rows seen : List (Box KeyEntry)) (at : ℕ) (v w : KeyEntry) (key : List ℕ) → seen ≡ rows → v ≡ row.value → w ≡ row.value → key ≡ w.key
+    → IsGap key_cmp key_of (key_at v.store key) seen at → IsGap key_cmp key_of (key_of row) rows at
+row_gap row rows seen at v w key seen_is v_is w_is is h =
+    subst (λ (q : DocKey). IsGap key_cmp key_of q rows at) (key_is row v w key v_is w_is is) (subst (λ (rs : List (Box KeyEntry)). IsGap key_cmp key_of (key_at v.store key) rs at) seen_is h)

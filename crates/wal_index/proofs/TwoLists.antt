@@ -41,6 +41,15 @@ found_recent settled recent q entry is = sym (find_merged keys_total q (pairs se
 pub found_settled : (settled recent : List (Box KeyEntry)) (q : DocKey) → finite.find key_cmp q (pairs recent) ≡ None → finite.find key_cmp q (pairs settled) ≡ finite.find key_cmp q (all_pairs settled recent)
 found_settled settled recent q is = sym (find_merged keys_total q (pairs settled) (pairs recent) ∙ ap (λ (o : Option Entry). option_or o (finite.find key_cmp q (pairs settled))) is)
 
+-- the same where the other list was searched first
+pub older_settled : (settled recent : List (Box KeyEntry)) (q : DocKey) (entry : Entry) → AreRows settled recent → finite.find key_cmp q (pairs settled) ≡ Some entry → Some entry ≡ finite.find key_cmp q (all_pairs settled recent)
+older_settled settled recent q entry rows is = sym is ∙ found_settled settled recent q (apart_none keys_total (pairs settled) (pairs recent) q rows.apart (ap is_some is))
+
+pub older_recent : (settled recent : List (Box KeyEntry)) (q : DocKey) → finite.find key_cmp q (pairs settled) ≡ None → finite.find key_cmp q (pairs recent) ≡ finite.find key_cmp q (all_pairs settled recent)
+older_recent settled recent q none =
+    let found = finite.find key_cmp q (pairs recent) in
+    sym (find_merged keys_total q (pairs settled) (pairs recent) ∙ ap (option_or found) none ∙ elim found as (λ (o : Option Entry). option_or o None ≡ o) [ Some entry ↦ refl | None ↦ refl ])
+
 -- ---- without a row
 
 pub without_settled : (settled front recent : List (Box KeyEntry)) (r : Box KeyEntry) → settled ≡ front ++ r ∷ [] → AreRows settled recent → AreRows front recent

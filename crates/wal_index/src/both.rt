@@ -43,8 +43,7 @@ pub(crate) fn put_both(
     ensures numbers_len { vec_len numbers.new ≤ vec_len numbers.old + 1 }
     ensures agree { Agree (all_pairs rows.new.settled.items rows.new.recent.items) (marks numbers.new.items) }
 {
-    let older = rows.get(row.store, row.key.as_slice());
-    remove_older(numbers, older, row.store, row.key.as_slice());
-    rows.put(row);
+    let older = rows.put(row);
+    remove_older(numbers, older, number.store, number.key.as_slice());
     put_number(numbers, number);
 }

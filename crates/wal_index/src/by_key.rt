@@ -1,4 +1,4 @@
-ghost use Rattle.std.specs.Prelude.{◌≡◌, ◌≤◌, ◌+◌, ◌<◌, length, not, ◌==◌, filter, MatchResult, true, is_some, IfSome, IfNone, IfOk, IfErr, OnErr, Some, None, vec_len, vec_capacity};
+ghost use Rattle.std.specs.Prelude.{◌≡◌, ◌≤◌, ◌+◌, ◌<◌, length, not, ◌==◌, filter, MatchResult, true, is_some, IfOk, IfErr, OnOk, OnErr, Some, None, vec_len, vec_capacity};
 ghost use Rattle.std.specs.Option.{option_map};
 ghost use Rattle.std.specs.FinMap as finite;
 ghost use Rattle.forest_model.specs.Key.{key_cmp};
@@ -37,37 +37,45 @@ pub(crate) fn get(rows: &[Box<KeyEntry>], store: u64, key: &[u8]) -> Option<Entr
     }
 }
 
-// Puts a row in the place of that of its key, or where it belongs. There is capacity for it.
-pub(crate) fn put(rows: &mut RowList, row: Box<KeyEntry>)
+// Puts a row in the place of that of its key, whose entry it answers, or where it belongs. There is capacity for it.
+pub(crate) fn put(rows: &mut RowList, row: Box<KeyEntry>) -> Option<Entry>
     requires sorted { AreSorted rows.old.items }
     requires room { vec_len rows.old < vec_capacity rows.old }
     ensures put { pairs rows.new.items ≡ finite.put key_cmp (pair_of row).0 (pair_of row).1 (pairs rows.old.items) }
     ensures capacity { vec_capacity rows.old ≤ vec_capacity rows.new }
     ensures len { vec_len rows.new ≤ vec_len rows.old + 1 }
+    ensures older { result ≡ finite.find key_cmp (pair_of row).0 (pairs rows.old.items) }
 {
     match place(rows.as_slice(), row.store, row.key.as_slice()) {
-        Ok(at) => rows[at] = row,
+        Ok(at) => {
+            let older = rows[at].entry;
+            rows[at] = row;
+            Some(older)
+        }
         Err(at) => {
             let _room = rows.insert(at, row);
+            None
         }
     }
 }
 
-// Puts a row in the place of that of its key, or gives it back where there is none.
-pub(crate) fn replace(rows: &mut RowList, row: Box<KeyEntry>) -> Option<Box<KeyEntry>>
+// Puts a row in the place of that of its key, whose entry it answers, or gives it back where there is none.
+pub(crate) fn replace(rows: &mut RowList, row: Box<KeyEntry>) -> Result<Entry, Box<KeyEntry>>
     requires { AreSorted rows.old.items }
-    ensures put { IfNone result (pairs rows.new.items ≡ finite.put key_cmp (pair_of row).0 (pair_of row).1 (pairs rows.old.items)) }
-    ensures found { IfNone result (is_some (finite.find key_cmp (pair_of row).0 (pairs rows.old.items)) ≡ true) }
-    ensures back { IfSome result (λ same. same.value ≡ row.value) }
-    ensures kept { IfSome result (λ _. rows.new.items ≡ rows.old.items) }
-    ensures absent { IfSome result (λ _. finite.find key_cmp (pair_of row).0 (pairs rows.old.items) ≡ None) }
+    ensures put { OnOk result (pairs rows.new.items ≡ finite.put key_cmp (pair_of row).0 (pair_of row).1 (pairs rows.old.items)) }
+    ensures found { OnOk result (is_some (finite.find key_cmp (pair_of row).0 (pairs rows.old.items)) ≡ true) }
+    ensures older { IfOk result (λ older. finite.find key_cmp (pair_of row).0 (pairs rows.old.items) ≡ Some older) }
+    ensures back { IfErr result (λ same. same.value ≡ row.value) }
+    ensures kept { OnErr result (rows.new.items ≡ rows.old.items) }
+    ensures absent { OnErr result (finite.find key_cmp (pair_of row).0 (pairs rows.old.items) ≡ None) }
 {
     match place(rows.as_slice(), row.store, row.key.as_slice()) {
         Ok(at) => {
+            let older = rows[at].entry;
             rows[at] = row;
-            None
+            Ok(older)
         }
-        Err(_) => Some(row),
+        Err(_) => Err(row),
     }
 }
 

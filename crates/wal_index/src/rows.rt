@@ -93,17 +93,19 @@ impl Rows {
         settled.saturating_add(live_of(self.recent.as_slice(), store))
     }
 
-    // Puts a row in the place of that of its key, or where it belongs. There is capacity for it.
-    pub(crate) fn put(&mut self, row: Box<KeyEntry>)
+    // Puts a row in the place of that of its key, whose entry it answers, or where it belongs. There is capacity for it.
+    pub(crate) fn put(&mut self, row: Box<KeyEntry>) -> Option<Entry>
         requires rows { AreRows self.old.settled.items self.old.recent.items }
         requires room { vec_len self.old.recent < vec_capacity self.old.recent }
         ensures rows { AreRows self.new.settled.items self.new.recent.items }
         ensures put { all_pairs self.new.settled.items self.new.recent.items ≡ finite.put key_cmp (pair_of row).0 (pair_of row).1 (all_pairs self.old.settled.items self.old.recent.items) }
         ensures capacity { vec_capacity self.old.recent ≤ vec_capacity self.new.recent }
         ensures len { vec_len self.new.recent ≤ vec_len self.old.recent + 1 }
+        ensures older { result ≡ finite.find key_cmp (pair_of row).0 (all_pairs self.old.settled.items self.old.recent.items) }
     {
-        if let Some(row) = by_key::replace(&mut self.settled, row) {
-            by_key::put(&mut self.recent, row);
+        match by_key::replace(&mut self.settled, row) {
+            Ok(older) => Some(older),
+            Err(row) => by_key::put(&mut self.recent, row),
         }
     }
 

@@ -1,26 +1,34 @@
-use Rattle.std.proofs.Common.{◌≡◌, List, ap, ◌∙◌, subst}
+use Rattle.std.proofs.Common.{Some, sym, ap, ◌∙◌}
 use Rattle.std.specs.Prelude.{insert, if◌then◌else◌}
-use Rattle.std.specs.Global.{Box}
 use Rattle.forest_model.specs.Key.{key_cmp}
-use Rattle.forest_model.specs.declared.documents.DocKey.{DocKey}
 use Rattle.forest_model.specs.declared.stored.KeyEntry.{KeyEntry}
-use Rattle.wal_index.specs.Index.{key_at}
 use Rattle.wal_index.specs.Rows.{key_of, pair_of, pairs}
-use Rattle.wal_index.specs.Places.{IsAt, IsGap}
 use Rattle.wal_index.proofs.Orders.{exact_keys}
-use Rattle.wal_index.proofs.Sorted.{put_over, put_between}
+use Rattle.wal_index.proofs.Placed.{row_at, row_gap}
+use Rattle.wal_index.proofs.Sorted.{found_at, found_nowhere, put_over, put_between}
 use Rattle.wal_index.proofs.by_key.put.Goals as goal
 
 pub returns-in-Ok-clause-put : goal.returns-in-Ok-clause-put
 returns-in-Ok-clause-put c =
-    let q_is : key_at c.deref.result.now.store c.as_slice-2.result.now ≡ key_of c.args.row = ap (λ r. key_at r.store c.as_slice-2.result.now) c.deref.ensures ∙ ap (key_at c.args.row.value.store) (c.as_slice-2.ensures ∙ ap (λ r. r.key) c.deref-2.ensures) in
-    let at : IsAt key_cmp key_of (key_of c.args.row) c.args.rows.now.items c.in-Ok.at = subst (λ (q : DocKey). IsAt key_cmp key_of q c.args.rows.now.items c.in-Ok.at) q_is (subst (λ (rows : List (Box KeyEntry)). IsAt key_cmp key_of (key_at c.deref.result.now.store c.as_slice-2.result.now) rows c.in-Ok.at) c.as_slice.ensures.value c.in-Ok.ensures.at) in
-    put_over key_cmp pair_of exact_keys c.args.row c.args.rows.now.items c.in-Ok.at at.within at.here at.around.before
+    let rows = c.args.rows.now.items in
+    let at = row_at c.args.row rows c.as_slice.result.now c.in-Ok.at c.deref.result.now c.deref-2.result.now c.as_slice-2.result.now c.as_slice.ensures.value c.deref.ensures c.deref-2.ensures c.as_slice-2.ensures c.in-Ok.ensures.at in
+    put_over key_cmp pair_of exact_keys c.args.row rows c.in-Ok.at at.within at.here at.around.before
+
+pub returns-in-Ok-clause-older : goal.returns-in-Ok-clause-older
+returns-in-Ok-clause-older c =
+    let rows = c.args.rows.now.items in
+    let at = row_at c.args.row rows c.as_slice.result.now c.in-Ok.at c.deref.result.now c.deref-2.result.now c.as_slice-2.result.now c.as_slice.ensures.value c.deref.ensures c.deref-2.ensures c.as_slice-2.ensures c.in-Ok.ensures.at in
+    ap (λ (v : KeyEntry). Some v.entry) c.deref-in-Ok.ensures ∙ sym (found_at key_cmp pair_of (key_of c.args.row) rows c.in-Ok.at c.index.result.now at.within at.here at.around.before c.index.ensures)
 
 pub returns-in-Err-clause-put : goal.returns-in-Err-clause-put
 returns-in-Err-clause-put c =
-    let q_is : key_at c.deref.result.now.store c.as_slice-2.result.now ≡ key_of c.args.row = ap (λ r. key_at r.store c.as_slice-2.result.now) c.deref.ensures ∙ ap (key_at c.args.row.value.store) (c.as_slice-2.ensures ∙ ap (λ r. r.key) c.deref-2.ensures) in
-    let gap : IsGap key_cmp key_of (key_of c.args.row) c.args.rows.now.items c.in-Err.at = subst (λ (q : DocKey). IsGap key_cmp key_of q c.args.rows.now.items c.in-Err.at) q_is (subst (λ (rows : List (Box KeyEntry)). IsGap key_cmp key_of (key_at c.deref.result.now.store c.as_slice-2.result.now) rows c.in-Err.at) c.as_slice.ensures.value c.in-Err.ensures.gap) in
     let rows = c.args.rows.now.items in
+    let gap = row_gap c.args.row rows c.as_slice.result.now c.in-Err.at c.deref.result.now c.deref-2.result.now c.as_slice-2.result.now c.as_slice.ensures.value c.deref.ensures c.deref-2.ensures c.as_slice-2.ensures c.in-Err.ensures.gap in
     ap pairs (c.insert-room.ensures.items ∙ ap (λ b. if b then insert rows c.in-Err.at c.args.row else rows) (c.insert-room.ensures.succeeds c.requires.room))
     ∙ put_between key_cmp pair_of c.args.row rows c.in-Err.at gap.within gap.around.before gap.around.behind
+
+pub returns-in-Err-clause-older : goal.returns-in-Err-clause-older
+returns-in-Err-clause-older c =
+    let rows = c.args.rows.now.items in
+    let gap = row_gap c.args.row rows c.as_slice.result.now c.in-Err.at c.deref.result.now c.deref-2.result.now c.as_slice-2.result.now c.as_slice.ensures.value c.deref.ensures c.deref-2.ensures c.as_slice-2.ensures c.in-Err.ensures.gap in
+    sym (found_nowhere key_cmp pair_of (key_of c.args.row) rows c.in-Err.at gap.around.before gap.around.behind)
