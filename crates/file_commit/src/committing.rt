@@ -6,7 +6,7 @@ ghost use Rattle.forest_model.specs.declared.state.State.{State};
 ghost use Rattle.file_parts.specs.Held.{held};
 ghost use Rattle.file_core.specs.Updates.{StandsAt, IsFile, CommitsAs};
 ghost use Rattle.file_parts.specs.Moment.{Aside, moment_of};
-ghost use Rattle.file_commit.specs.Committing.{is_commit_worn, is_far, header_after, held_after, CommitAnswers, CommitGives};
+ghost use Rattle.file_commit.specs.Committing.{is_commit_worn, is_far, CommitAnswers, CommitGives};
 
 use crate::disk::put_commit;
 use crate::header::{next_header, sealed_header};

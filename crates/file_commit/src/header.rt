@@ -1,6 +1,6 @@
-ghost use Rattle.std.specs.Prelude.{◌≡◌, ◌+◌, ◌^◌, ◌<◌, ◌≤◌, IfSome, false};
+ghost use Rattle.std.specs.Prelude.{◌≡◌, ◌+◌, ◌<◌, false};
 ghost use Rattle.file_parts.specs.Held.{held};
-ghost use Rattle.header_block.specs.Layout.{NamesBlocks, header_bytes};
+ghost use Rattle.header_block.specs.Layout.{NamesBlocks};
 ghost use Rattle.file_commit.specs.Committing.{is_commit_worn, is_far, header_after, TellsHeader};
 
 use block_host::{Block, Host, seal};

@@ -1,4 +1,4 @@
-ghost use Rattle.std.specs.Prelude.{◌≡◌, ◌<◌, slice_get, Some, length};
+ghost use Rattle.std.specs.Prelude.{◌≡◌, slice_get, Some};
 ghost use Rattle.forest_model.specs.Stored.{StoreRow};
 ghost use Rattle.file_commit.specs.Committing.{is_same_row, are_same_rows};
 

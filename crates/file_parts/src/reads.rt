@@ -1,7 +1,7 @@
-ghost use Rattle.std.specs.Prelude.{◌≡◌, ◌≤◌, IsTrue, OnOk, ◌≢◌, Err};
+ghost use Rattle.std.specs.Prelude.{◌≡◌, ◌≤◌, IsTrue, ◌≢◌, Err};
 ghost use Rattle.forest_model.specs.Limits as limits;
 ghost use Rattle.file_parts.specs.Held.{held};
-ghost use Rattle.file_parts.specs.Lookup.{stop_of, living, entry_of_key, LooksUpNumber, info_in, FindsRecord};
+ghost use Rattle.file_parts.specs.Lookup.{living, entry_of_key, LooksUpNumber, info_in, FindsRecord};
 
 use crate::Parts;
 use block_host::{Host, View};

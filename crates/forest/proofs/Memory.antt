@@ -9,7 +9,6 @@ use Rattle.host_memory.specs.Formatted.{first_slot, first_header}
 use Rattle.file_image.specs.NewStore.{IsNewStore, new_header}
 use Rattle.forest_model.specs.Blocks.{File}
 use Rattle.header_block.specs.Layout.{header_bytes, long}
-use Rattle.meta_slots.specs.Slots.{slot_bytes}
 use Rattle.file_core.specs.Updates.{bytes_of}
 use Rattle.play_run.specs.Seen.{Seen}
 use Rattle.play_run.specs.Play.{Leaves, Says, SaysPart, Takes}

@@ -1,4 +1,4 @@
-ghost use Rattle.std.specs.Prelude.{◌≡◌, ◌≢◌, IsTrue, false, true, not, ◌⊎◌};
+ghost use Rattle.std.specs.Prelude.{◌≡◌, ◌≢◌, IsTrue, false, ◌⊎◌};
 
 /// The status where the words are refused.
 pub(crate) const WORDS_REFUSED: u8 = 1;

@@ -1,5 +1,5 @@
 -- When the counts of faults rise, and when they stand still.
-use Rattle.std.proofs.Common.{◌≡◌, ℕ, ◌<◌, ◌≤◌, refl, sym, ap, subst, ◌∙◌, arith, inl, inr}
+use Rattle.std.proofs.Common.{◌≡◌, ℕ, ◌<◌, ◌≤◌, sym, ap, subst, ◌∙◌, arith, inl, inr}
 use Rattle.std.specs.Prelude.{◌⊎◌}
 use Rattle.block_host.specs.Disk.{risen}
 use Rattle.file_core.specs.declared.state.FileState.{FileState}

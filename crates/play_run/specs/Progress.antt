@@ -1,5 +1,5 @@
 -- How far a player has come: what its open file stands for, and what was said.
-use Rattle.std.specs.Prelude.{◌≡◌, ℕ, ◌+◌, ◌<◌, ◌≤◌, ◌⊎◌, Bool, IsTrue, List, [], ◌∷◌, ◌++◌, length, take}
+use Rattle.std.specs.Prelude.{◌≡◌, ℕ, ◌+◌, ◌≤◌, ◌⊎◌, Bool, IsTrue, List, [], ◌∷◌, ◌++◌, length, take}
 use Rattle.forest_model.specs.Blocks.{File}
 use Rattle.forest_model.specs.Run.{Run}
 use Rattle.forest_model.specs.declared.line.Line.{Line}

@@ -1,4 +1,4 @@
-ghost use Rattle.std.specs.Prelude.{◌≡◌, ◌^◌, ◌<◌, ◌≤◌, ◌↔◌, IsTrue, IfOk, OnOk, OnErr, [], length, ◌==◌, nat_eq};
+ghost use Rattle.std.specs.Prelude.{◌≡◌, ◌<◌, ◌≤◌, ◌↔◌, IsTrue, IfOk, OnOk, OnErr, length, ◌==◌};
 ghost use Rattle.block_host.specs.Disk.{risen};
 ghost use Rattle.block_host.specs.Sealed.{IsSealed};
 ghost use Rattle.header_block.specs.Layout.{header_bytes};

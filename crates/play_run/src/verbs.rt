@@ -1,4 +1,4 @@
-ghost use Rattle.std.specs.Prelude.{false, ◌≡◌, ◌≢◌, ◌+◌, ◌≤◌, ◌⊎◌, IsTrue, IfOk, IfErr, OnOk, Err, ℕ, length};
+ghost use Rattle.std.specs.Prelude.{false, ◌≡◌, ◌≢◌, ◌≤◌, IsTrue, IfOk, IfErr, OnOk, Err, length};
 ghost use Rattle.forest_model.specs.Blocks.{File};
 ghost use Rattle.forest_model.specs.declared.line.Verb.TheVariants as Verb;
 ghost use Rattle.forest_model.specs.declared.line.Said.TheVariants as Said;
@@ -6,7 +6,7 @@ ghost use Rattle.forest_model.specs.declared.refusal.Refusal.TheVariants as Refu
 ghost use Rattle.forest_model.specs.declared.state.State.{State};
 ghost use Rattle.play_run.specs.declared.player.Ended.TheVariants as Ended;
 ghost use Rattle.script_text.specs.Grammar.{IsRightVerb};
-ghost use Rattle.script_text.specs.Replies.{CanBeSaid, HasText};
+ghost use Rattle.script_text.specs.Replies.{CanBeSaid};
 ghost use Rattle.play_run.specs.Built.{is_built_verb};
 ghost use Rattle.play_run.specs.Playing.{Answers, StandsFor, opened};
 ghost use Rattle.play_run.specs.Progress.{FaultsAfter, IsStop};

@@ -1,5 +1,4 @@
-ghost use Rattle.std.specs.Prelude.{◌≡◌, ◌≤◌, ◌+◌, ◌<◌, length, not, ◌==◌, filter, MatchResult, true, is_some, IfOk, IfErr, OnOk, OnErr, Some, None, vec_len, vec_capacity};
-ghost use Rattle.std.specs.Option.{option_map};
+ghost use Rattle.std.specs.Prelude.{◌≡◌, ◌≤◌, ◌+◌, ◌<◌, not, ◌==◌, filter, true, is_some, IfOk, IfErr, OnOk, OnErr, Some, None, vec_len, vec_capacity};
 ghost use Rattle.std.specs.FinMap as finite;
 ghost use Rattle.forest_model.specs.Key.{key_cmp};
 ghost use Rattle.wal_index.specs.Index.{key_at};

@@ -1,7 +1,7 @@
 ghost use Rattle.std.specs.Prelude.{◌≡◌, ◌^◌, ◌-◌, min, sum_by};
 ghost use Rattle.wal_index.specs.Index.{key_at};
 ghost use Rattle.wal_index.specs.Live.{len_if_live, own_len, is_before_store};
-ghost use Rattle.wal_index.specs.Rows.{held, key_of, AreSorted, IsBorder};
+ghost use Rattle.wal_index.specs.Rows.{held, AreSorted, IsBorder};
 
 use forest_model::{Entry, KeyEntry};
 

@@ -1,5 +1,3 @@
-ghost use Rattle.std.specs.Prelude.{◌≡◌};
-
 use crate::WalIndex;
 use forest_model::{Entry, KeyEntry, Refusal};
 use std::test::*;
