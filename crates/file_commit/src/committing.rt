@@ -39,9 +39,12 @@ pub fn commit<H: Host>(file: &mut FileState<H>, at: &StoreRef) -> Result<u64, Re
     ensures settled { IsTrue H.tells → OnOk result ((file.new.parts.place ≡ file.old.parts.place) ⊎ IsSettled file.old.parts.revision (H.disk file.new.parts.host)) }
     ensures aside { IsTrue H.tells → Aside file.old.parts.revision (H.disk file.old.parts.host) (H.disk file.new.parts.host) }
     ensures view_count { H.View.faults file.new.parts.view ≡ H.View.faults file.old.parts.view }
+    ensures clock { (H.disk file.old.parts.host).moment ≤ (H.disk file.new.parts.host).moment }
     ensures counts { H.faults file.old.parts.host ≤ H.faults file.new.parts.host }
     ensures untroubled { result ≢ Err Refusal.DiskFault → H.faults file.new.parts.host ≡ H.faults file.old.parts.host }
     ensures halts { result ≡ Err Refusal.DiskFault → file.new.parts.stopped ≡ Some (H.faults file.new.parts.host) }
+    ensures opened { file.new.parts.opened ≡ file.old.parts.opened }
+    ensures damaged { file.new.parts.damaged ≡ file.old.parts.damaged }
 {
     rules();
     nothing_new();
@@ -62,9 +65,12 @@ fn commit_in<H: Host>(parts: &mut Parts<H>, at: &StoreRef) -> Result<u64, Refusa
     ensures settled { IsTrue H.tells → OnOk result ((parts.new.place ≡ parts.old.place) ⊎ IsSettled parts.old.revision (H.disk parts.new.host)) }
     ensures aside { IsTrue H.tells → Aside parts.old.revision (H.disk parts.old.host) (H.disk parts.new.host) }
     ensures view_count { H.View.faults parts.new.view ≡ H.View.faults parts.old.view }
+    ensures clock { (H.disk parts.old.host).moment ≤ (H.disk parts.new.host).moment }
     ensures counts { H.faults parts.old.host ≤ H.faults parts.new.host }
     ensures untroubled { result ≢ Err Refusal.DiskFault → H.faults parts.new.host ≡ H.faults parts.old.host }
     ensures halts { result ≡ Err Refusal.DiskFault → parts.new.stopped ≡ Some (H.faults parts.new.host) }
+    ensures opened { parts.new.opened ≡ parts.old.opened }
+    ensures damaged { parts.new.damaged ≡ parts.old.damaged }
 {
     if at.read_only {
         return Err(Refusal::ReadOnly);
@@ -101,9 +107,12 @@ fn commit_new<H: Host>(parts: &mut Parts<H>, stores: Stores) -> Result<u64, Refu
     ensures settled { IsTrue H.tells → OnOk result ((parts.new.place ≡ parts.old.place) ⊎ IsSettled parts.old.revision (H.disk parts.new.host)) }
     ensures aside { IsTrue H.tells → Aside parts.old.revision (H.disk parts.old.host) (H.disk parts.new.host) }
     ensures view_count { H.View.faults parts.new.view ≡ H.View.faults parts.old.view }
+    ensures clock { (H.disk parts.old.host).moment ≤ (H.disk parts.new.host).moment }
     ensures counts { H.faults parts.old.host ≤ H.faults parts.new.host }
     ensures untroubled { result ≢ Err Refusal.DiskFault → H.faults parts.new.host ≡ H.faults parts.old.host }
     ensures halts { result ≡ Err Refusal.DiskFault → parts.new.stopped ≡ Some (H.faults parts.new.host) }
+    ensures opened { parts.new.opened ≡ parts.old.opened }
+    ensures damaged { parts.new.damaged ≡ parts.old.damaged }
 {
     let header = next_header(parts, stores);
     let number = header.commit;
@@ -143,6 +152,8 @@ fn enter<H: Host>(parts: &mut Parts<H>, header: Header, at: u64)
     } }
     ensures host { parts.new.host ≡ parts.old.host }
     ensures view { parts.new.view ≡ parts.old.view }
+    ensures opened { parts.new.opened ≡ parts.old.opened }
+    ensures damaged { parts.new.damaged ≡ parts.old.damaged }
 {
     parts.header = header;
     parts.header_at = at;

@@ -20,6 +20,7 @@ pub(crate) fn put_commit<H: Host>(
     ensures settled { IsTrue H.tells → OnOk result (IsSettled file (H.disk host.new)) }
     ensures aside { IsTrue H.tells → Aside file (H.disk host.old) (H.disk host.new) }
     ensures failed { OnErr result (risen (H.faults host.old) ≤ H.faults host.new) }
+    ensures clock { (H.disk host.old).moment ≤ (H.disk host.new).moment }
     ensures counts { H.faults host.old ≤ H.faults host.new }
     ensures untroubled { OnOk result (H.faults host.new ≡ H.faults host.old) }
     ensures view_count { H.View.faults view.new ≡ H.View.faults view.old }
@@ -35,6 +36,7 @@ fn put_open_block<H: Host>(host: &mut H, file: u64, block: Option<Block>) -> Res
     ensures settled { IsTrue H.tells → OnOk result (IsSettled file (H.disk host.new)) }
     ensures aside { IsTrue H.tells → Aside file (H.disk host.old) (H.disk host.new) }
     ensures failed { OnErr result (risen (H.faults host.old) ≤ H.faults host.new) }
+    ensures clock { (H.disk host.old).moment ≤ (H.disk host.new).moment }
     ensures counts { H.faults host.old ≤ H.faults host.new }
     ensures untroubled { OnOk result (H.faults host.new ≡ H.faults host.old) }
 {
@@ -50,6 +52,7 @@ fn put_header<H: Host>(host: &mut H, file: u64, header: &Block) -> Result<(), Fa
     ensures settled { IsTrue H.tells → OnOk result (IsSettled file (H.disk host.new)) }
     ensures aside { IsTrue H.tells → Aside file (H.disk host.old) (H.disk host.new) }
     ensures failed { OnErr result (risen (H.faults host.old) ≤ H.faults host.new) }
+    ensures clock { (H.disk host.old).moment ≤ (H.disk host.new).moment }
     ensures counts { H.faults host.old ≤ H.faults host.new }
     ensures untroubled { OnOk result (H.faults host.new ≡ H.faults host.old) }
 {
