@@ -13,7 +13,7 @@ use Rattle.forest_model.specs.declared.stored.Rec.{Rec}
 use Rattle.file_documents.specs.declared.batch_puts.Pending.{Pending}
 use Rattle.file_documents.specs.Batching.{Turn, PutsEach, item_record, item_entry, item_key, documents_with, live_with}
 use Rattle.file_documents.specs.BatchPuts.{Known, PutsAll, IsPut, entry_put, known_with, known_after, known_from, room_of}
-use Rattle.file_documents.proofs.RecordLength.{length-record}
+use Rattle.file_parts.proofs.Puts.{length-record}
 
 -- ---- one record
 

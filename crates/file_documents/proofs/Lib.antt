@@ -1,4 +1,3 @@
-pub mod RecordLength
 pub mod SetDone
 pub mod BatchItems
 pub mod BatchPut

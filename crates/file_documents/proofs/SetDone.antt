@@ -1,9 +1,8 @@
 -- What the steps of a set leave together.
-use Rattle.std.proofs.Common.{◌≡◌, ℕ, ◌+◌, List, [], length, sym, ap, subst, ◌∙◌, Bool}
+use Rattle.std.proofs.Common.{◌≡◌, ℕ, ◌+◌, List, length, sym, ap, subst, ◌∙◌, Bool}
 use Rattle.std.specs.Prelude.{IsTrue}
 use Rattle.std.specs.FinMap as finite
-use Rattle.doc_stream.specs.OpenBlock.{OpenBlock, PutsBytes}
-use Rattle.doc_stream.specs.Records.{is_record, record_bytes}
+use Rattle.doc_stream.specs.Records.{is_record}
 use Rattle.forest_model.specs.Documents.{key_at, doc_of}
 use Rattle.forest_model.specs.declared.documents.DocKey.{DocKey}
 use Rattle.forest_model.specs.declared.documents.Doc.{Doc}
@@ -16,17 +15,7 @@ use Rattle.file_documents.specs.Setting.{put_of, documents_after, live_after, en
 use Rattle.file_parts.specs.Causes.{documents_in}
 use Rattle.file_parts.specs.Moment.{Moment}
 use Rattle.file_parts.specs.Records.{PutsRecord}
-
--- the index has room, a record is put, and then neither the open block nor the file is changed
-put_on : (told : Bool) (old mid new : Moment) (w : Index) (r s : Rec) → r ≡ s → PutsRecord told r (record old { held = record (old.held) { wal = w } }) mid
-    → mid.held.tail ≡ new.held.tail → new.disk ≡ mid.disk → new.file ≡ mid.file → PutsRecord told s old new
-put_on told old mid new w r s r_is puts t_is disk_is file_is = record {
-  out = puts.out;
-  put = subst (λ (t : OpenBlock). PutsBytes old.held.revision (record_bytes s) old.held.tail t [] puts.out) t_is
-      (subst (λ (q : Rec). PutsBytes old.held.revision (record_bytes q) old.held.tail mid.held.tail [] puts.out) r_is puts.put);
-  files = λ t. ap (λ d. d.files old.held.revision) disk_is ∙ puts.files t;
-  shown = λ t was. file_is ∙ puts.shown t was ∙ sym (ap (λ d. d.files old.held.revision) disk_is);
-}
+use Rattle.file_parts.proofs.Puts.{put_on}
 
 -- the index has room, the record is put, and then all else is changed
 pub entered : (told : Bool) (k : DocKey) (d : Doc) (old mid new : Moment) (w : Index) (r : Rec) (e : Entry) (documents : ℕ)

@@ -1,9 +1,7 @@
 -- What the steps of a removal leave together.
-use Rattle.std.proofs.Common.{◌≡◌, ℕ, ◌+◌, ◌-◌, ◌^◌, [], length, sym, ap, subst, ◌∙◌, Bool}
+use Rattle.std.proofs.Common.{◌≡◌, ℕ, ◌+◌, ◌-◌, ◌^◌, length, sym, ap, ◌∙◌, Bool}
 use Rattle.std.specs.Prelude.{true, min, not, ◌==◌, None}
 use Rattle.std.specs.FinMap as finite
-use Rattle.doc_stream.specs.OpenBlock.{OpenBlock, PutsBytes}
-use Rattle.doc_stream.specs.Records.{record_bytes}
 use Rattle.forest_model.specs.Step.{first_cause}
 use Rattle.forest_model.specs.declared.stored.Rec.{Rec}
 use Rattle.kvs_names.specs.Answers.{remove_causes as why_not_removed}
@@ -14,6 +12,7 @@ use Rattle.file_parts.specs.Held.{Held}
 use Rattle.file_stores.specs.StoreChanges.{gone_of, RemovesStore}
 use Rattle.file_parts.specs.Moment.{Moment}
 use Rattle.file_parts.specs.Records.{PutsRecord}
+use Rattle.file_parts.proofs.Puts.{put_on}
 
 -- the memory is taken, the record is put, and then all else is changed
 pub unmade : (told : Bool) (id : ℕ) (old mid new : Moment) (w : Index) (live : ℕ) (r : Rec) → w ≡ record (old.held.wal) { may_go = true } → r ≡ gone_of id
@@ -33,13 +32,7 @@ pub unmade : (told : Bool) (id : ℕ) (old mid new : Moment) (w : Index) (live :
 unmade told id old mid new w live r w_is r_is puts mid_is disk_is file_is entries names rest live_is =
     let t_is : mid.held.tail ≡ new.held.tail = sym (ap (λ (h : Held). h.tail) rest) in
     record {
-      puts = record {
-        out = puts.out;
-        put = subst (λ (t : OpenBlock). PutsBytes old.held.revision (record_bytes (gone_of id)) old.held.tail t [] puts.out) t_is
-            (subst (λ (q : Rec). PutsBytes old.held.revision (record_bytes q) old.held.tail mid.held.tail [] puts.out) r_is puts.put);
-        files = λ t. ap (λ d. d.files old.held.revision) disk_is ∙ puts.files t;
-        shown = λ t was. file_is ∙ puts.shown t was ∙ sym (ap (λ d. d.files old.held.revision) disk_is);
-      };
+      puts = put_on told old mid new w r (gone_of id) r_is puts t_is disk_is file_is;
       entries = entries ∙ (λ i. finite.retain_keys (mid_is i).wal.entries (λ k. not (k.store == id))) ∙ (λ i. finite.retain_keys (w_is i).entries (λ k. not (k.store == id)));
       names = λ free. names (ap (λ (h : Held). first_cause (why_not_removed h.names id)) mid_is ∙ free) ∙ ap (λ (h : Held). without h.names id) mid_is;
       rest = rest ∙ (λ i. record (mid_is i) {
