@@ -12,7 +12,7 @@ use Rattle.forest_model.specs.declared.call.Item.TheVariants.{Put, Del}
 use Rattle.file_documents.specs.Setting.{put_of}
 use Rattle.file_documents.specs.Deleting.{deletion_of}
 use Rattle.file_documents.specs.Batching.{Turn, PutsItem, PutsEach, item_record}
-use Rattle.file_documents.proofs.RecordLength.{length-record}
+use Rattle.file_parts.proofs.Puts.{length-record}
 use Rattle.file_core.proofs.SetBlocks.{put_lengths}
 
 -- ---- what the crate below promises of bytes put one after another

@@ -39,7 +39,7 @@ use Rattle.file_documents.specs.Setting.{is_live, live_len}
 use Rattle.file_documents.specs.Deleting.{older_in, delete_causes, deletion_of, deleted_entry, DeletesFile, DeleteGives, DeleteAnswers}
 use Rattle.file_core.proofs.Inserted.{same_or_other, got_own, got_other}
 use Rattle.file_core.proofs.Removed.{removed_own, removed_other, live-remove, count-remove, count-remove_other}
-use Rattle.file_documents.proofs.RecordLength.{length-record}
+use Rattle.file_parts.proofs.Puts.{length-record}
 use Rattle.file_core.proofs.SetCauses.{refused_first, answered_last, none_holds, unmet, gone_is, seq_is, documents_is, needed_is}
 use Rattle.file_core.proofs.SetEntries.{has_more, older_len, older_lives, numbers_set, unchanged_by}
 use Rattle.file_core.proofs.SetStands.{PutsKeep, there_is, has_room, kept_stands, kept_file, no_refusal, same_refusal}

@@ -40,7 +40,7 @@ use Rattle.file_core.proofs.StoreRows.{rows_counted}
 use Rattle.file_core.proofs.SetCauses.{none_holds, unmet, gone_is, seq_is, documents_is, step_refused, step_answered}
 use Rattle.file_core.proofs.SetEntries.{documents_set, older_len, older_lives, numbers_set, unchanged_set}
 use Rattle.file_core.proofs.SetBlocks.{Lengths, put_lengths, put_records, behind, length-bytes_of, bytes-append}
-use Rattle.file_documents.proofs.RecordLength.{length-record}
+use Rattle.file_parts.proofs.Puts.{length-record}
 
 -- ---- what the crates below promise of records
 

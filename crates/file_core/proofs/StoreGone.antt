@@ -34,7 +34,7 @@ use Rattle.file_core.specs.Stands.{Stands, AreDocuments, DrawNumbers, row_in}
 use Rattle.file_stores.specs.StoreChanges.{id_named, gone_of, remove_causes, RemovesStore, RemoveGives, RemoveAnswers}
 use Rattle.file_parts.specs.Moment.{Moment}
 use Rattle.file_core.specs.Updates.{StandsAt, IsFile, UpdatesAs, bytes_of}
-use Rattle.file_documents.proofs.RecordLength.{length-record}
+use Rattle.file_parts.proofs.Puts.{length-record}
 use Rattle.file_core.proofs.SetCauses.{none_holds, unmet, refused_first, answered_last}
 use Rattle.file_core.proofs.SetEntries.{older_len}
 use Rattle.file_core.proofs.SetStands.{PutsKeep, kept_stands, kept_file, same_refusal, has_room}

@@ -25,7 +25,7 @@ use Rattle.file_stores.specs.StoreChanges.{id_named, make_causes, open_causes, n
 use Rattle.file_parts.specs.Moment.{Moment}
 use Rattle.file_parts.specs.Records.{NotPut}
 use Rattle.file_core.specs.Updates.{StandsAt, IsFile, UpdatesAs, bytes_of}
-use Rattle.file_documents.proofs.RecordLength.{length-record}
+use Rattle.file_parts.proofs.Puts.{length-record}
 use Rattle.file_core.proofs.SetCauses.{none_holds, unmet}
 use Rattle.file_core.proofs.SetStands.{PutsKeep, kept_stands, kept_file, same_refusal, has_room}
 use Rattle.file_core.proofs.PutRecord.{number_is, bytes_are, loose_is, size_is, documents_stay, adds, file_is}

@@ -65,7 +65,9 @@ pub(crate) fn run<H: Host>(
         Verb::Get { key } => get(file, at, key),
         Verb::BySeq { seq } => by_seq(file, at, *seq),
         Verb::Info => info(file, at),
-        _ => commit_now(file, at),
+        Verb::Commit => commit_now(file, at),
+        // `built` has no other.
+        _ => unreachable!(),
     }
 }
 
