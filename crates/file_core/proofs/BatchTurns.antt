@@ -31,7 +31,8 @@ use Rattle.file_core.proofs.Deleted.{documents_deleted}
 use Rattle.file_core.proofs.Inserted.{got_other, live-part, live-insert, count-insert, count-other, count-live}
 use Rattle.file_core.proofs.Removed.{removed_other, live-remove, count-remove, count-remove_other}
 use Rattle.file_core.proofs.SetEntries.{documents_set, older_len, older_lives, numbers_set}
-use Rattle.file_core.proofs.SetStands.{PutsKeep, PutStands, counted_is}
+use Rattle.file_core.proofs.Puts.{PutsKeep, PutStands}
+use Rattle.file_core.proofs.SetStands.{counted_is}
 use Rattle.file_core.proofs.StoreRows.{found_id, id-at_seq, at_seq_own, store_of-with_seq, each_raised}
 
 -- ---- the numbers of a store that draws several

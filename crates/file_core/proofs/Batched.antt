@@ -1,16 +1,14 @@
 -- The file stands for the state after a batch.
-use Rattle.std.proofs.Common.{◌≡◌, ℕ, ◌+◌, ◌^◌, ◌≤◌, ◌<◌, Bool, true, false, List, [], ◌∷◌, ◌++◌, length, Option, Some, None, Ok, Err, refl, sym, ap, subst, ◌∙◌, arith, inl, inr}
-use Rattle.std.specs.Prelude.{IsTrue, is_none, sum_by, MatchOption, Result, if◌then◌else◌}
+use Rattle.std.proofs.Common.{◌≡◌, ℕ, ◌+◌, ◌^◌, ◌≤◌, ◌<◌, Bool, true, false, List, [], ◌∷◌, ◌++◌, length, Option, Some, None, Ok, Err, refl, sym, ap, subst, ◌∙◌, arith}
+use Rattle.std.specs.Prelude.{IsTrue, is_none, sum_by, Result, if◌then◌else◌}
 use Rattle.std.specs.Option.{option_map_or}
 use Rattle.std.specs.FinMap as finite
-use Rattle.std.proofs.lemmas.Bool.{true≢false}
 use Rattle.std.proofs.lemmas.Option.{none-some}
 use Rattle.block_host.specs.declared.block.Block.{Block}
 use Rattle.doc_stream.specs.OpenBlock.{OpenBlock, PutsBytes}
 use Rattle.doc_stream.specs.Reading.{RecordAt}
 use Rattle.forest_model.specs.Blocks.{File}
 use Rattle.forest_model.specs.Documents.{Map, key_at, doc_of, after_items}
-use Rattle.forest_model.specs.Run.{FileAfter}
 use Rattle.forest_model.specs.Stores.{store_of, seq_of, with_seq}
 use Rattle.forest_model.specs.Step.{Outcome, first_cause, item_length, step_of, written}
 use Rattle.forest_model.specs.declared.call.Call.TheVariants as calls
@@ -28,17 +26,19 @@ use Rattle.model_laws.specs.Laws.{RulesStay, RecordsKeepHeader}
 use Rattle.wal_index.specs.Index.{Map as Entries}
 use Rattle.file_parts.specs.Held.{Held}
 use Rattle.file_core.specs.Stands.{AreDocuments, DrawNumbers}
-use Rattle.file_parts.specs.Causes.{seq_in, OnlyMemory}
+use Rattle.file_parts.specs.Causes.{seq_in}
 use Rattle.file_parts.specs.Moment.{Moment}
 use Rattle.file_core.specs.Updates.{StandsAt, IsFile, UpdatesAs, bytes_of}
 use Rattle.file_documents.specs.Writing.{WritesFile}
 use Rattle.file_documents.specs.Batching.{Turn, first_turn, batch_needed, batch_causes, BatchesFile, BatchGives, BatchAnswers}
+use Rattle.file_core.proofs.Answered.{there_is, has_room, answered_as, failed_as, done_as}
 use Rattle.file_core.proofs.BatchBytes.{PutsJoin, PutsNone, bytes_of_items, length-items, items_joined, each_behind}
 use Rattle.file_core.proofs.BatchCauses.{misses_too, batch_refused, batch_answered}
 use Rattle.file_core.proofs.BatchTurns.{AtTurn, numbers_raised, each_turn}
 use Rattle.file_core.proofs.SetCauses.{none_holds, unmet, gone_is, seq_is, documents_is}
 use Rattle.file_core.proofs.SetEntries.{has_more, unchanged_by}
-use Rattle.file_core.proofs.SetStands.{PutsKeep, PutStands, there_is, has_room, kept_stands, kept_file, no_refusal, same_refusal}
+use Rattle.file_core.proofs.Puts.{PutsKeep, PutStands, open_short, is_end}
+use Rattle.file_core.proofs.SetStands.{no_refusal}
 use Rattle.file_core.proofs.Written.{Update, after_update, written_stands, written_grows, written_file}
 
 -- each item draws a number
@@ -54,10 +54,6 @@ last_number store (Del key ∷ items) seq m last is = by (finite.contains_key m 
       → (if b then after_items store items (seq + 1) (finite.remove m (key_at store key)) else None) ≡ Some last → last.0 ≡ seq + length (Del key ∷ items)
   by true later e = omega (arith, later e)
   by false later e = absurd (none-some last e)
-
-last_there : (o : Option (ℕ × Map)) → is_none o ≡ false → (last : ℕ × Map) × (o ≡ Some last)
-last_there None e = absurd (true≢false e)
-last_there (Some last) e = (last, refl)
 
 -- ---- a batch that is done
 
@@ -77,11 +73,8 @@ module _ (keep : PutsKeep) (lands : PutStands) (joins : PutsJoin) (nones : PutsN
   seq_next : seq_of s.stores at.store ≡ st.seq
   seq_next = ap (λ (o : Option Store). option_map_or (λ t. t.seq) o 0) found
 
-  open_short : length old.held.tail.bytes < 4064
-  open_short = let h = stands.is_state.open_block in omega (arith, stands.open_block, h)
-
   low : old.held.live + n < 2 ^ 62
-  low = omega (arith, stands.within, room, ap (λ l. l.max_blocks) stands.limits, stands.most, open_short)
+  low = omega (arith, stands.within, room, ap (λ l. l.max_blocks) stands.limits, stands.most, open_short stands)
 
   at_start : AtTurn told old.held.revision at.store (old.held.live + n) n s.stores s.documents old.file start s.documents
   at_start = record {
@@ -92,8 +85,8 @@ module _ (keep : PutsKeep) (lands : PutStands) (joins : PutsJoin) (nones : PutsN
     most = omega (arith, stands.live);
     counts = λ other no. refl;
     others = λ q no. refl;
-    at_end = λ t. stands.at_end ∙ sym (stands.size t);
-    short = open_short;
+    at_end = is_end stands;
+    short = open_short stands;
   }
 
   ends : AtTurn told old.held.revision at.store (old.held.live + n) 0 s.stores s.documents (old.file ++ batches.out) end last.1 × (end.seq ≡ last.0)
@@ -105,7 +98,7 @@ module _ (keep : PutsKeep) (lands : PutStands) (joins : PutsJoin) (nones : PutsN
   tail_is = sym (ap (λ (h : Held). h.tail) batches.rest)
 
   joined : PutsBytes old.held.revision (bytes_of_items at.store (seq_in old.held.names.rows at.store) items) old.held.tail end.tail [] batches.out
-  joined = (items_joined joins nones old.held.revision at.store items start end [] batches.out open_short batches.each).1
+  joined = (items_joined joins nones old.held.revision at.store items start end [] batches.out (open_short stands) batches.each).1
 
   writes : WritesFile told at.store last.0 end.documents end.live (bytes_of_items at.store (seq_in old.held.names.rows at.store) items) old new
   writes = record {
@@ -129,7 +122,6 @@ module _ (keep : PutsKeep) (lands : PutStands) (joins : PutsJoin) (nones : PutsN
   pub update : Update told at (calls.Batch at items) n last.0 end.documents end.live (bytes_of_items at.store (seq_in old.held.names.rows at.store) items) last.1 old new s f
   update = record {
     stands = stands;
-    is_long = is_long;
     room = room;
     long = length-items at.store (seq_in old.held.names.rows at.store) items;
     stepped = ap (λ (o : Outcome). o.1) stepped;
@@ -158,28 +150,19 @@ module _ (keep : PutsKeep) (lands : PutStands) (joins : PutsJoin) (nones : PutsN
 
   pub batch_stands : RulesStay → StandsAt told new (after_update s at last.0 last.1 n)
   batch_stands rules =
-      written_stands keep update rules documents_are numbers_are ends.0.counted ends.0.counts ends.0.live (omega (arith, ends.0.live, ends.0.most))
+      written_stands update rules documents_are numbers_are ends.0.counted ends.0.counts ends.0.live (omega (arith, ends.0.live, ends.0.most))
       (unchanged_by s at.store last.0 st last.1 ends.0.others stands.unchanged found more)
 
 -- ---- what a batch answers
 
 pub batch_updates : RulesStay → RecordsKeepHeader → PutsKeep → PutStands → PutsJoin → PutsNone → (told : Bool) (at : StoreRef) (items : List Item) → 1 ≤ length items → (old new : Moment) (result : Result ℕ Refusal)
     → BatchAnswers told at items old new result → (s : State) (f : File) → StandsAt told old s → IsFile told old.held old.file f → UpdatesAs told replies.Seq s f (calls.Batch at items) old new result
-batch_updates rules headers keep lands joins nones told at items some old new result answers s f stands was = by (first_cause (batch_causes old.held at items)) refl answers where
-  refused : (why : Refusal) → first_cause (batch_causes old.held at items) ≡ Some why → result ≡ Err why → OnlyMemory old new → UpdatesAs told replies.Seq s f (calls.Batch at items) old new result
-  refused why e is same =
-      let step = batch_refused told old.held old.disk old.file s f at items stands was.long why e in
-      subst (λ (r : Result ℕ Refusal). UpdatesAs told replies.Seq s f (calls.Batch at items) old new r) (sym is) (record {
-        done = tt;
-        refused = λ other h. ap Err (same_refusal why other (sym (ap (λ (o : Outcome). o.0) step) ∙ h));
-        reason = inl (ap (λ (o : Outcome). o.0) step, kept_stands told old new s stands same, kept_file told old new f was same);
-      })
-
+batch_updates rules headers keep lands joins nones told at items some old new result answers s f stands was = answered_as told replies.Seq (calls.Batch at items) old new s f stands was no_refusal _ result (batch_refused told old.held old.disk old.file s f at items stands was.long) (given result) answers where
   -- what the step leaves where nothing is against it
   goes_on : first_cause (batch_causes old.held at items) ≡ None → (last : ℕ × Map) × (after_items at.store items (seq_of s.stores at.store) s.documents ≡ Some last)
   goes_on free =
       let causes = none_holds (batch_causes old.held at items) free in
-      last_there _ (sym (misses_too told old.held old.disk old.file s f at items stands was.long) ∙ unmet _ _ causes.1.1.1.1.1.0)
+      there_is _ (sym (misses_too told old.held old.disk old.file s f at items stands was.long) ∙ unmet _ _ causes.1.1.1.1.1.0)
 
   step_is : (free : first_cause (batch_causes old.held at items) ≡ None) → step_of s f (calls.Batch at items) ≡ written s at (goes_on free).0.0 (goes_on free).0.1 (sum_by item_length items)
   step_is free =
@@ -198,34 +181,9 @@ batch_updates rules headers keep lands joins nones told at items some old new re
       let there = there_is (store_of s.stores at.store) gone in
       let room : old.held.blocks + batch_needed old.held items + 2 ≤ old.held.limits.max_blocks = has_room _ _ _ (unmet _ _ causes.1.1.1.1.1.1.0) in
       let whole = update keep lands joins nones told at items some old new s f stands was.long there.0 there.1 last goes room step gives.1 in
-      record {
-        done = (
-          ap (λ (o : Outcome). o.0) step ∙ ap replies.Seq number,
-          subst (λ (o : Outcome). StandsAt told new o.1) (sym step) (batch_stands keep lands joins nones told at items some old new s f stands was.long there.0 there.1 last goes room step gives.1 rules),
-          (
-            f ++ bytes_of whole.writes.out,
-            subst (λ (o : Outcome). FileAfter s f (Some (calls.Batch at items)) o.1 (f ++ bytes_of whole.writes.out)) (sym step) (written_grows keep whole (λ g adds. adds)),
-            written_file keep whole headers was,
-          ),
-        );
-        refused = λ other h. absurd (no_refusal _ other (sym (ap (λ (o : Outcome). o.0) step) ∙ h));
-        reason = tt;
-      }
-  given (Err why) free gives =
-      let step = step_is free in
-      record {
-        done = tt;
-        refused = λ other h. absurd (no_refusal _ other (sym (ap (λ (o : Outcome). o.0) step) ∙ h));
-        reason = elim gives [
-          | inl memory ↦ inr (inl (memory.0, kept_stands told old new s stands memory.1, kept_file told old new f was memory.1))
-          | inr other ↦ elim other [
-            | inl fault ↦ inr (inr (fault.0, inl fault.1))
-            | inr far ↦ absurd (omega (arith, far, stands.at_end, stands.low))
-          ]
-        ];
-      }
-
-  by : (o : Option Refusal) → first_cause (batch_causes old.held at items) ≡ o → MatchOption o (BatchGives told at items old new result) (λ why. (result ≡ Err why) × OnlyMemory old new)
-      → UpdatesAs told replies.Seq s f (calls.Batch at items) old new result
-  by None e h = given result e h
-  by (Some why) e h = refused why e h.0 h.1
+      done_as told replies.Seq (calls.Batch at items) old new s f stands was no_refusal seq (after_update s at last.0 last.1 (sum_by item_length items)) (f ++ bytes_of whole.writes.out)
+      (step ∙ ap (λ (n : ℕ). (replies.Seq n, after_update s at last.0 last.1 (sum_by item_length items))) number)
+      (batch_stands keep lands joins nones told at items some old new s f stands was.long there.0 there.1 last goes room step gives.1 rules)
+      (written_grows whole (λ adds. adds))
+      (written_file whole headers was)
+  given (Err why) free gives = failed_as told replies.Seq (calls.Batch at items) old new s f stands was no_refusal _ why (ap (λ (o : Outcome). o.0) (step_is free)) gives

@@ -1,9 +1,8 @@
 -- The file stands for the state after a key is deleted.
-use Rattle.std.proofs.Common.{◌≡◌, ℕ, ◌+◌, ◌-◌, ◌/◌, ◌≤◌, Bool, false, not, List, [], ◌∷◌, ◌++◌, length, Option, Some, None, Ok, Err, refl, sym, ap, subst, ◌∙◌, arith, inl, inr}
-use Rattle.std.specs.Prelude.{IsTrue, is_none, is_some, nat_lt, MatchOption, Result}
+use Rattle.std.proofs.Common.{◌≡◌, ℕ, ◌+◌, ◌-◌, ◌/◌, ◌≤◌, Bool, false, not, List, [], ◌∷◌, ◌++◌, length, Option, Some, None, Ok, Err, sym, ap, subst, ◌∙◌, arith, inl, inr}
+use Rattle.std.specs.Prelude.{IsTrue, is_none, is_some, nat_lt, Result}
 use Rattle.std.specs.Option.{option_map_or}
 use Rattle.std.specs.FinMap as finite
-use Rattle.std.proofs.lemmas.Bool.{false≢true}
 use Rattle.block_host.specs.Disk.{Disk}
 use Rattle.block_host.specs.declared.block.Block.{Block}
 use Rattle.doc_stream.specs.OpenBlock.{OpenBlock}
@@ -13,7 +12,6 @@ use Rattle.file_image.specs.Commits.{live_bytes}
 use Rattle.forest_model.specs.Blocks.{File}
 use Rattle.forest_model.specs.Documents.{Map, key_at, doc_at, count_of}
 use Rattle.forest_model.specs.Limits.{is_wrong_key, any_worn}
-use Rattle.forest_model.specs.Run.{FileAfter}
 use Rattle.forest_model.specs.Stores.{store_of, seq_of, with_seq}
 use Rattle.forest_model.specs.Step.{Outcome, ◌where_holds◌, answer, causes, full, first_cause, next_seq, record_length, step_of}
 use Rattle.forest_model.specs.declared.call.Call.TheVariants as calls
@@ -34,16 +32,18 @@ use Rattle.file_parts.specs.Held.{Held}
 use Rattle.file_core.specs.Stands.{Stands, HasDocument, AreDocuments, DrawNumbers}
 use Rattle.file_parts.specs.Moment.{Moment}
 use Rattle.file_core.specs.Updates.{StandsAt, IsFile, UpdatesAs, bytes_of}
-use Rattle.file_parts.specs.Causes.{seq_in, documents_in, blocks_needed, OnlyMemory}
+use Rattle.file_parts.specs.Causes.{seq_in, documents_in, blocks_needed}
 use Rattle.file_documents.specs.Setting.{is_live, live_len}
 use Rattle.file_documents.specs.Deleting.{older_in, delete_causes, deletion_of, deleted_entry, DeletesFile, DeleteGives, DeleteAnswers}
+use Rattle.file_core.proofs.Answered.{there_is, has_room, answered_as, failed_as, done_as}
 use Rattle.file_core.proofs.Inserted.{same_or_other, got_own, got_other}
 use Rattle.file_core.proofs.Removed.{removed_own, removed_other, live-remove, count-remove, count-remove_other}
 use Rattle.file_parts.proofs.Puts.{length-record}
 use Rattle.file_core.proofs.SetCauses.{refused_first, answered_last, none_holds, unmet, gone_is, seq_is, documents_is, needed_is}
 use Rattle.file_core.proofs.SetEntries.{has_more, older_len, older_lives, numbers_set, unchanged_by}
-use Rattle.file_core.proofs.SetStands.{PutsKeep, there_is, has_room, kept_stands, kept_file, no_refusal, same_refusal}
-use Rattle.file_core.proofs.Written.{Update, written_keeps, written_stands, written_grows, written_file}
+use Rattle.file_core.proofs.Puts.{PutsKeep, keeps}
+use Rattle.file_core.proofs.SetStands.{no_refusal}
+use Rattle.file_core.proofs.Written.{Update, puts, written_stands, written_grows, written_file}
 
 -- ---- why it is refused
 
@@ -84,10 +84,6 @@ module _ (told : Bool) (revision : ℕ) (file file' : List Block) (tail tail' : 
         (has_more told revision file file' tail tail' keeps q (finite.get entries q) (finite.get documents q) (are q)))
   ]
 
-doc_there : (o : Option Doc) → is_none o ≡ false → (d : Doc) × (o ≡ Some d)
-doc_there None e = absurd (false≢true (sym e))
-doc_there (Some d) e = (d, refl)
-
 -- ---- a deletion that is done
 
 module _ (keep : PutsKeep) (told : Bool) (at : StoreRef) (key : List ℕ) (old new : Moment) (s : State) (f : File) (stands : StandsAt told old s) (is_long : length f ≡ old.held.blocks) (st : Store) (found : store_of s.stores at.store ≡ Some st) (d : Doc) (has : doc_at s.documents at.store key ≡ Some d) (room : old.held.blocks + blocks_needed old.held key [] [] + 2 ≤ old.held.limits.max_blocks) (stepped : step_of s f (calls.Delete at key) ≡ answer s (calls.Delete at key)) (deletes : DeletesFile told (key_at at.store key) (next_seq s at) old new) where
@@ -103,7 +99,6 @@ module _ (keep : PutsKeep) (told : Bool) (at : StoreRef) (key : List ℕ) (old n
   pub update : Update told at (calls.Delete at key) (record_length key [] []) (next_seq s at) (documents_in old.held.names.rows at.store - 1) (old.held.live - live_len older) (record_bytes (deletion_of k (next_seq s at))) left old new s f
   update = record {
     stands = stands;
-    is_long = is_long;
     room = room;
     long = length-record (deletion_of k (next_seq s at));
     stepped = ap (λ (o : Outcome). o.1) stepped;
@@ -113,7 +108,7 @@ module _ (keep : PutsKeep) (told : Bool) (at : StoreRef) (key : List ℕ) (old n
   documents_are : AreDocuments told old.held.revision new.file new.held.tail new.held.wal.entries left
   documents_are =
       subst (λ (m : finite.FinMap _ Entry). AreDocuments told old.held.revision new.file new.held.tail m left) (sym deletes.entries)
-      (documents_deleted told old.held.revision old.file new.file old.held.tail new.held.tail (written_keeps keep update) old.held.wal.entries s.documents k (next_seq s at) stands.documents)
+      (documents_deleted told old.held.revision old.file new.file old.held.tail new.held.tail (keeps keep (puts update)) old.held.wal.entries s.documents k (next_seq s at) stands.documents)
 
   seq_next : seq_of s.stores at.store ≡ st.seq
   seq_next = ap (λ (o : Option Store). option_map_or (λ t. t.seq) o 0) found
@@ -134,23 +129,14 @@ module _ (keep : PutsKeep) (told : Bool) (at : StoreRef) (key : List ℕ) (old n
 
   pub delete_stands : RulesStay → StandsAt told new (answer s (calls.Delete at key)).1
   delete_stands rules =
-      written_stands keep update rules documents_are numbers_are counted_now (λ j other. count-remove_other s.documents k j other) live_now (omega arith)
+      written_stands update rules documents_are numbers_are counted_now (λ j other. count-remove_other s.documents k j other) live_now (omega arith)
       (unchanged_by s at.store (next_seq s at) st left (λ q other. removed_other s.documents k q (λ own. other (ap (λ (x : DocKey). x.store) own))) stands.unchanged found (omega (arith, seq_next)))
 
 -- ---- what a deletion answers
 
 pub delete_updates : RulesStay → RecordsKeepHeader → PutsKeep → (told : Bool) (at : StoreRef) (key : List ℕ) (old new : Moment) (result : Result ℕ Refusal)
     → DeleteAnswers told at key old new result → (s : State) (f : File) → StandsAt told old s → IsFile told old.held old.file f → UpdatesAs told replies.Seq s f (calls.Delete at key) old new result
-delete_updates rules headers keep told at key old new result answers s f stands was = by (first_cause (delete_causes old.held at key)) refl answers where
-  refused : (why : Refusal) → first_cause (delete_causes old.held at key) ≡ Some why → result ≡ Err why → OnlyMemory old new → UpdatesAs told replies.Seq s f (calls.Delete at key) old new result
-  refused why e is same =
-      let step = delete_refused told old.held old.disk old.file s f at key stands was.long why e in
-      subst (λ (r : Result ℕ Refusal). UpdatesAs told replies.Seq s f (calls.Delete at key) old new r) (sym is) (record {
-        done = tt;
-        refused = λ other h. ap Err (same_refusal why other (sym (ap (λ (o : Outcome). o.0) step) ∙ h));
-        reason = inl (ap (λ (o : Outcome). o.0) step, kept_stands told old new s stands same, kept_file told old new f was same);
-      })
-
+delete_updates rules headers keep told at key old new result answers s f stands was = answered_as told replies.Seq (calls.Delete at key) old new s f stands was no_refusal _ result (delete_refused told old.held old.disk old.file s f at key stands was.long) (given result) answers where
   given : (r : Result ℕ Refusal) → first_cause (delete_causes old.held at key) ≡ None → DeleteGives told at key old new r → UpdatesAs told replies.Seq s f (calls.Delete at key) old new r
   given (Ok seq) free gives =
       let step = delete_answered told old.held old.disk old.file s f at key stands was.long free in
@@ -160,37 +146,14 @@ delete_updates rules headers keep told at key old new result answers s f stands 
       let gone : is_none (store_of s.stores at.store) ≡ false = sym (gone_is told old.held old.disk old.file s f at key [] [] stands was.long) ∙ unmet _ _ causes.1.1.0 in
       let there = there_is (store_of s.stores at.store) gone in
       let has : is_none (doc_at s.documents at.store key) ≡ false = sym (ap not (living_is told old.held old.disk old.file s f at key stands was.long)) ∙ unmet _ _ causes.1.1.1.1.0 in
-      let document = doc_there (doc_at s.documents at.store key) has in
+      let document = there_is (doc_at s.documents at.store key) has in
       let room : old.held.blocks + blocks_needed old.held key [] [] + 2 ≤ old.held.limits.max_blocks = has_room _ _ _ (unmet _ _ causes.1.1.1.1.1.0) in
       let whole = update keep told at key old new s f stands was.long there.0 there.1 document.0 document.1 room step deletes in
-      record {
-        done = (
-          ap (λ (o : Outcome). o.0) step ∙ ap (λ n. replies.Seq (n + 1)) (sym next) ∙ ap replies.Seq (sym gives.0),
-          subst (λ (o : Outcome). StandsAt told new o.1) (sym step) (delete_stands keep told at key old new s f stands was.long there.0 there.1 document.0 document.1 room step deletes rules),
-          (
-            f ++ bytes_of whole.writes.out,
-            subst (λ (o : Outcome). FileAfter s f (Some (calls.Delete at key)) o.1 (f ++ bytes_of whole.writes.out)) (sym step) (written_grows keep whole (λ g adds. adds)),
-            written_file keep whole headers was,
-          ),
-        );
-        refused = λ other h. absurd (no_refusal _ other (sym (ap (λ (o : Outcome). o.0) step) ∙ h));
-        reason = tt;
-      }
+      done_as told replies.Seq (calls.Delete at key) old new s f stands was no_refusal seq (answer s (calls.Delete at key)).1 (f ++ bytes_of whole.writes.out)
+      (step ∙ ap (λ (n : ℕ). (replies.Seq n, (answer s (calls.Delete at key)).1)) (ap (λ n. n + 1) (sym next) ∙ sym gives.0))
+      (delete_stands keep told at key old new s f stands was.long there.0 there.1 document.0 document.1 room step deletes rules)
+      (written_grows whole (λ adds. adds))
+      (written_file whole headers was)
   given (Err why) free gives =
       let step = delete_answered told old.held old.disk old.file s f at key stands was.long free in
-      record {
-        done = tt;
-        refused = λ other h. absurd (no_refusal _ other (sym (ap (λ (o : Outcome). o.0) step) ∙ h));
-        reason = elim gives [
-          | inl memory ↦ inr (inl (memory.0, kept_stands told old new s stands memory.1, kept_file told old new f was memory.1))
-          | inr other ↦ elim other [
-            | inl fault ↦ inr (inr (fault.0, inl fault.1))
-            | inr far ↦ absurd (omega (arith, far, stands.at_end, stands.low))
-          ]
-        ];
-      }
-
-  by : (o : Option Refusal) → first_cause (delete_causes old.held at key) ≡ o → MatchOption o (DeleteGives told at key old new result) (λ why. (result ≡ Err why) × OnlyMemory old new)
-      → UpdatesAs told replies.Seq s f (calls.Delete at key) old new result
-  by None e h = given result e h
-  by (Some why) e h = refused why e h.0 h.1
+      failed_as told replies.Seq (calls.Delete at key) old new s f stands was no_refusal _ why (ap (λ (o : Outcome). o.0) step) gives

@@ -3,6 +3,8 @@ pub mod StoreRows
 pub mod SetCauses
 pub mod SetEntries
 pub mod SetBlocks
+pub mod Puts
+pub mod Answered
 pub mod SetStands
 pub mod Removed
 pub mod Written
@@ -14,7 +16,6 @@ pub mod Batched
 pub mod Numbered
 pub mod Standing
 pub mod Answering
-pub mod PutRecord
 pub mod StoreTables
 pub mod StoreCauses
 pub mod StoreMade

@@ -1,10 +1,10 @@
 -- The file stands for the state after the removal of a store.
-use Rattle.std.proofs.Common.{◌≡◌, ◌≢◌, ℕ, ◌+◌, ◌-◌, ◌/◌, ◌^◌, ◌≤◌, Bool, true, false, List, [], ◌∷◌, ◌++◌, length, map, Option, Some, None, Ok, Err, refl, sym, ap, subst, ◌∙◌, arith, inl, inr}
-use Rattle.std.specs.Prelude.{is_none, min, not, ◌||◌, codes, nat_eq, nat_lt, MatchBool, MatchOption, Result}
+use Rattle.std.proofs.Common.{◌≡◌, ◌≢◌, ℕ, ◌+◌, ◌-◌, ◌/◌, ◌^◌, ◌≤◌, Bool, true, false, List, [], ◌∷◌, ◌++◌, length, map, Option, Some, None, Ok, Err, refl, sym, ap, subst, ◌∙◌, arith, inr}
+use Rattle.std.specs.Prelude.{is_none, min, not, ◌||◌, codes, nat_eq, nat_lt, Result}
 use Rattle.std.specs.Cmp.Lexicographic.{pointwise}
 use Rattle.std.specs.FinMap as finite
 use Rattle.std.specs.Option.{option_map, option_map_or}
-use Rattle.std.proofs.lemmas.Bool.{eq-eqb, true≢false}
+use Rattle.std.proofs.lemmas.Bool.{true≢false}
 use Rattle.block_host.specs.Disk.{Disk}
 use Rattle.block_host.specs.declared.block.Block.{Block}
 use Rattle.doc_stream.specs.Records.{record_bytes}
@@ -12,7 +12,7 @@ use Rattle.file_image.specs.Commits.{live_bytes}
 use Rattle.forest_model.specs.Blocks.{File}
 use Rattle.forest_model.specs.Documents.{without_store}
 use Rattle.forest_model.specs.Limits.{is_name, any_worn}
-use Rattle.forest_model.specs.Run.{FileAfter, Grows}
+use Rattle.forest_model.specs.Run.{FileAfter}
 use Rattle.forest_model.specs.State.{IsState}
 use Rattle.forest_model.specs.Stores.{store_named, without}
 use Rattle.forest_model.specs.Step.{Outcome, ◌where_holds◌, answer, causes, first_cause, full, record_length, step_of, updated}
@@ -29,16 +29,15 @@ use Rattle.kvs_names.specs.Table as tables
 use Rattle.model_laws.specs.Laws.{RulesStay, RecordsKeepHeader}
 use Rattle.wal_index.specs.Live.{own_live}
 use Rattle.file_parts.specs.Held.{Held}
-use Rattle.file_parts.specs.Causes.{blocks_needed, OnlyMemory}
+use Rattle.file_parts.specs.Causes.{blocks_needed}
 use Rattle.file_core.specs.Stands.{Stands, AreDocuments, DrawNumbers, row_in}
 use Rattle.file_stores.specs.StoreChanges.{id_named, gone_of, remove_causes, RemovesStore, RemoveGives, RemoveAnswers}
 use Rattle.file_parts.specs.Moment.{Moment}
 use Rattle.file_core.specs.Updates.{StandsAt, IsFile, UpdatesAs, bytes_of}
-use Rattle.file_parts.proofs.Puts.{length-record}
 use Rattle.file_core.proofs.SetCauses.{none_holds, unmet, refused_first, answered_last}
 use Rattle.file_core.proofs.SetEntries.{older_len}
-use Rattle.file_core.proofs.SetStands.{PutsKeep, kept_stands, kept_file, same_refusal, has_room}
-use Rattle.file_core.proofs.PutRecord.{number_is, bytes_are, loose_is, open_short, size_is, documents_stay, adds, file_is}
+use Rattle.file_core.proofs.Puts.{PutsKeep, Puts, puts_of_record, open_short, loose_is, room_left, bytes_are, size_is, documents_stay, grows, file_is}
+use Rattle.file_core.proofs.Answered.{there_is, has_room, answered_as, failed_as, done_as}
 use Rattle.file_core.proofs.StoreCauses.{id_is}
 use Rattle.file_core.proofs.StoreLess.{rows_less, documents_less, numbers_less, unchanged_less, may_go}
 use Rattle.file_core.proofs.StoreMade.{some_mapped}
@@ -84,14 +83,8 @@ module _ (rules : RulesStay) (keep : PutsKeep) (told : Bool) (at : StoreRef) (na
   abbrev n : ℕ
   n = record_length [] [] []
 
-  long : length (record_bytes rec) ≡ n
-  long = length-record rec
-
-  number_now : new.held.tail.number ≡ old.held.blocks + blocks_needed old.held [] [] []
-  number_now = number_is keep told rec n old new s stands removes.puts long
-
-  max_is : old.held.limits.max_blocks ≡ s.limits.max_blocks
-  max_is = ap (λ l. l.max_blocks) stands.limits
+  abbrev puts : Puts told (record_bytes rec) n old new s
+  puts = puts_of_record rec old new s stands removes.puts
 
   names_are : new.held.names ≡ tables.without old.held.names st.id
   names_are = removes.names (may_go s.documents s.stores old.held.names name st stands.is_state.now stands.rows found other)
@@ -104,9 +97,7 @@ module _ (rules : RulesStay) (keep : PutsKeep) (told : Bool) (at : StoreRef) (na
   less = live_without st.id old.held.wal.entries s.documents (λ q. older_len told old.held.revision old.file old.held.tail q (finite.get old.held.wal.entries q) (finite.get s.documents q) (stands.documents q))
 
   live_now : old.held.live - min (own_live st.id old.held.wal.entries) (2 ^ 64 - 1) ≡ live_bytes (without_store s.documents st.id)
-  live_now =
-      let short = open_short keep told rec n old new s stands removes.puts long in
-      omega (arith, less, stands.live, stands.within, stands.low, short)
+  live_now = omega (arith, less, stands.live, stands.within, stands.low, open_short stands)
 
   pub gone_stands : StandsAt told new (without_it s st.id)
   gone_stands = subst (λ (h : Held). Stands told h new.disk new.file (without_it s st.id)) (sym removes.rest) (record {
@@ -119,7 +110,7 @@ module _ (rules : RulesStay) (keep : PutsKeep) (told : Bool) (at : StoreRef) (na
     no_seq_root = stands.no_seq_root;
     documents =
         subst (λ (m : finite.FinMap _ Entry). AreDocuments told old.held.revision new.file new.held.tail m (without_store s.documents st.id)) (sym removes.entries)
-        (documents_less told old.held.revision new.file new.held.tail old.held.wal.entries s.documents st.id (documents_stay keep told rec n old new s stands removes.puts long));
+        (documents_less told old.held.revision new.file new.held.tail old.held.wal.entries s.documents st.id (documents_stay keep puts));
     numbers =
         subst (λ (m : finite.FinMap _ Entry). DrawNumbers m (without s.stores st.id)) (sym removes.entries)
         (numbers_less old.held.wal.entries s.stores st.id stands.numbers);
@@ -135,23 +126,22 @@ module _ (rules : RulesStay) (keep : PutsKeep) (told : Bool) (at : StoreRef) (na
     next_ticket = stands.next_ticket;
     limits = stands.limits;
     copying = stands.copying;
-    loose = loose_is keep told rec n old new s stands removes.puts long;
-    open_block = loose_is keep told rec n old new s stands removes.puts long;
+    loose = loose_is puts;
+    open_block = loose_is puts;
     at_end = refl;
-    size = λ t. size_is keep told rec n old new s stands removes.puts long t;
-    room = inr (omega (arith, number_now, room, max_is));
-    low = omega (arith, number_now, room, max_is, stands.most);
+    size = λ t. size_is puts t;
+    room = inr (room_left puts room);
+    low = omega (arith, room_left puts room, stands.most);
     most = stands.most;
-    within = omega (arith, live_now, less, stands.live, bytes_are keep told rec n old new s stands removes.puts long, stands.within);
+    within = omega (arith, live_now, less, stands.live, bytes_are puts, stands.within);
   })
 
   pub gone_grows : FileAfter s f (Some (calls.StoreRemove at name)) (without_it s st.id) (f ++ bytes_of removes.puts.out)
-  gone_grows = subst (λ (b : Bool). MatchBool b (Grows s f (calls.StoreRemove at name) (f ++ bytes_of removes.puts.out)) (f ++ bytes_of removes.puts.out ≡ f)) (sym (eq-eqb (s.place + 1) (s.place + 1) refl))
-      (adds keep told rec n old new s stands removes.puts long f)
+  gone_grows = grows puts f (calls.StoreRemove at name) (without_it s st.id) refl (λ adds. adds)
 
   pub gone_file : RecordsKeepHeader → IsFile told old.held old.file f → IsFile told new.held new.file (f ++ bytes_of removes.puts.out)
   gone_file headers was =
-      file_is keep told rec n old new s stands removes.puts long headers f was (ap (λ (h : Held). h.header) removes.rest) (ap (λ (h : Held). h.header_at) removes.rest) (ap (λ (h : Held). h.blocks) removes.rest)
+      file_is puts headers f was (ap (λ (h : Held). h.header) removes.rest) (ap (λ (h : Held). h.header_at) removes.rest) (ap (λ (h : Held). h.blocks) removes.rest)
 
 -- ---- what a removal answers
 
@@ -162,22 +152,9 @@ or_second : (a b : Bool) → (a || b) ≡ false → b ≡ false
 or_second true b e = absurd (true≢false e)
 or_second false b e = e
 
-there_is : (o : Option Store) → is_none o ≡ false → (st : Store) × (o ≡ Some st)
-there_is None e = absurd (true≢false e)
-there_is (Some st) e = (st, refl)
-
 pub remove_updates : RulesStay → RecordsKeepHeader → PutsKeep → (told : Bool) (at : StoreRef) (name : List ℕ) (old new : Moment) (result : Result ℕ Refusal)
     → RemoveAnswers told at name old new result → (s : State) (f : File) → StandsAt told old s → IsFile told old.held old.file f → UpdatesAs told replies.Removed s f (calls.StoreRemove at name) old new result
-remove_updates rules headers keep told at name old new result answers s f stands was = by (first_cause (remove_causes old.held at name)) refl answers where
-  refused : (why : Refusal) → first_cause (remove_causes old.held at name) ≡ Some why → result ≡ Err why → OnlyMemory old new → UpdatesAs told replies.Removed s f (calls.StoreRemove at name) old new result
-  refused why e is same =
-      let step = remove_refused told old.held old.disk old.file s f at name stands was.long why e in
-      subst (λ (r : Result ℕ Refusal). UpdatesAs told replies.Removed s f (calls.StoreRemove at name) old new r) (sym is) (record {
-        done = tt;
-        refused = λ other h. ap Err (same_refusal why other (sym (ap (λ (o : Outcome). o.0) step) ∙ h));
-        reason = inl (ap (λ (o : Outcome). o.0) step, kept_stands told old new s stands same, kept_file told old new f was same);
-      })
-
+remove_updates rules headers keep told at name old new result answers s f stands was = answered_as told replies.Removed (calls.StoreRemove at name) old new s f stands was no_refusal _ result (remove_refused told old.held old.disk old.file s f at name stands was.long) (given result) answers where
   step : (st : Store) → first_cause (remove_causes old.held at name) ≡ None → store_named s.stores name ≡ Some st → step_of s f (calls.StoreRemove at name) ≡ (replies.Removed st.id, without_it s st.id)
   step st free found =
       remove_answered told old.held old.disk old.file s f at name stands was.long free
@@ -191,36 +168,12 @@ remove_updates rules headers keep told at name old new result answers s f stands
       let other : pointwise nat_eq name (codes "default") ≡ false = or_second _ _ (unmet _ _ causes.1.0) in
       let room : old.held.blocks + blocks_needed old.held [] [] [] + 2 ≤ old.held.limits.max_blocks = has_room _ _ _ (unmet _ _ causes.1.1.1.1.0) in
       let stepped = step it.0 free it.1 in
-      record {
-        done = (
-          ap (λ (o : Outcome). o.0) stepped ∙ ap replies.Removed it.2,
-          subst (λ (o : Outcome). StandsAt told new o.1) (sym stepped) (gone_stands rules keep told at name old new s f stands it.0 it.1 other room stepped removes),
-          (
-            f ++ bytes_of removes.puts.out,
-            subst (λ (o : Outcome). FileAfter s f (Some (calls.StoreRemove at name)) o.1 (f ++ bytes_of removes.puts.out)) (sym stepped) (gone_grows rules keep told at name old new s f stands it.0 it.1 other room stepped removes),
-            gone_file rules keep told at name old new s f stands it.0 it.1 other room stepped removes headers was,
-          ),
-        );
-        refused = λ why h. absurd (no_refusal _ why (sym (ap (λ (o : Outcome). o.0) stepped) ∙ h));
-        reason = tt;
-      }
+      done_as told replies.Removed (calls.StoreRemove at name) old new s f stands was no_refusal id (without_it s it.0.id) (f ++ bytes_of removes.puts.out)
+      (stepped ∙ ap (λ (m : ℕ). (replies.Removed m, without_it s it.0.id)) it.2)
+      (gone_stands rules keep told at name old new s f stands it.0 it.1 other room stepped removes)
+      (gone_grows rules keep told at name old new s f stands it.0 it.1 other room stepped removes)
+      (gone_file rules keep told at name old new s f stands it.0 it.1 other room stepped removes headers was)
   given (Err why) free gives =
       let causes = none_holds (remove_causes old.held at name) free in
       let it = there_is (store_named s.stores name) (sym (gone_is told old.held old.disk old.file s f at name stands was.long) ∙ unmet _ _ causes.1.1.0) in
-      let stepped = step it.0 free it.1 in
-      record {
-        done = tt;
-        refused = λ other h. absurd (no_refusal _ other (sym (ap (λ (o : Outcome). o.0) stepped) ∙ h));
-        reason = elim gives [
-          | inl memory ↦ inr (inl (memory.0, kept_stands told old new s stands memory.1, kept_file told old new f was memory.1))
-          | inr other ↦ elim other [
-            | inl fault ↦ inr (inr (fault.0, inl fault.1))
-            | inr far ↦ absurd (omega (arith, far, stands.at_end, stands.low))
-          ]
-        ];
-      }
-
-  by : (o : Option Refusal) → first_cause (remove_causes old.held at name) ≡ o → MatchOption o (RemoveGives told name old new result) (λ why. (result ≡ Err why) × OnlyMemory old new)
-      → UpdatesAs told replies.Removed s f (calls.StoreRemove at name) old new result
-  by None e h = given result e h
-  by (Some why) e h = refused why e h.0 h.1
+      failed_as told replies.Removed (calls.StoreRemove at name) old new s f stands was no_refusal it.0.id why (ap (λ (o : Outcome). o.0) (step it.0 free it.1)) gives

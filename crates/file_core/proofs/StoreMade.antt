@@ -1,8 +1,8 @@
 -- The file stands for the state after the opening of a store.
-use Rattle.std.proofs.Common.{◌≡◌, ◌≢◌, ℕ, ◌+◌, ◌/◌, ◌≤◌, Bool, false, List, [], ◌∷◌, ◌++◌, length, map, Option, Some, None, Ok, Err, refl, sym, ap, subst, ◌∙◌, arith, inl, inr}
+use Rattle.std.proofs.Common.{◌≡◌, ◌≢◌, ℕ, ◌+◌, ◌/◌, ◌≤◌, Bool, false, List, [], ◌∷◌, ◌++◌, map, Option, Some, None, Ok, Err, refl, sym, ap, subst, ◌∙◌, arith, inr}
 use Rattle.std.specs.Prelude.{is_none, MatchBool, MatchOption, MatchResult, Result, if◌then◌else◌}
 use Rattle.std.specs.Option.{option_map, option_map_or}
-use Rattle.std.proofs.lemmas.Bool.{eq-eqb, ne_eqb}
+use Rattle.std.proofs.lemmas.Bool.{ne_eqb}
 use Rattle.std.proofs.lemmas.Option.{none-some, same_Some}
 use Rattle.doc_stream.specs.Records.{record_bytes}
 use Rattle.forest_model.specs.Blocks.{File}
@@ -25,10 +25,9 @@ use Rattle.file_stores.specs.StoreChanges.{id_named, make_causes, open_causes, n
 use Rattle.file_parts.specs.Moment.{Moment}
 use Rattle.file_parts.specs.Records.{NotPut}
 use Rattle.file_core.specs.Updates.{StandsAt, IsFile, UpdatesAs, bytes_of}
-use Rattle.file_parts.proofs.Puts.{length-record}
 use Rattle.file_core.proofs.SetCauses.{none_holds, unmet}
-use Rattle.file_core.proofs.SetStands.{PutsKeep, kept_stands, kept_file, same_refusal, has_room}
-use Rattle.file_core.proofs.PutRecord.{number_is, bytes_are, loose_is, size_is, documents_stay, adds, file_is}
+use Rattle.file_core.proofs.Puts.{PutsKeep, Puts, puts_of_record, loose_is, room_left, bytes_are, size_is, documents_stay, grows, file_is}
+use Rattle.file_core.proofs.Answered.{kept_stands, kept_file, has_room, answered_as, failed_as, done_as}
 use Rattle.file_core.proofs.StoreTables.{rows_added, none_of_next, numbers_added, unchanged_added}
 use Rattle.file_core.proofs.StoreCauses.{id_is, open_refused, open_answered}
 
@@ -43,14 +42,8 @@ module _ (rules : RulesStay) (keep : PutsKeep) (told : Bool) (name : List ℕ) (
   abbrev n : ℕ
   n = record_length name [] []
 
-  long : length (record_bytes rec) ≡ n
-  long = length-record rec
-
-  number_now : new.held.tail.number ≡ old.held.blocks + blocks_needed old.held name [] []
-  number_now = number_is keep told rec n old new s stands makes.puts long
-
-  max_is : old.held.limits.max_blocks ≡ s.limits.max_blocks
-  max_is = ap (λ l. l.max_blocks) stands.limits
+  abbrev puts : Puts told (record_bytes rec) n old new s
+  puts = puts_of_record rec old new s stands makes.puts
 
   rows_now : old.held.names.rows ++ record { id = old.held.names.next; name = name; seq = 0; documents = 0 } ∷ [] ≡ map (row_in s.documents) (s.stores ++ new_store s.next_store name ∷ [])
   rows_now =
@@ -66,7 +59,7 @@ module _ (rules : RulesStay) (keep : PutsKeep) (told : Bool) (name : List ℕ) (
     next_store = ap (λ m. m + 1) stands.next_store;
     no_key_root = stands.no_key_root;
     no_seq_root = stands.no_seq_root;
-    documents = documents_stay keep told rec n old new s stands makes.puts long;
+    documents = documents_stay keep puts;
     numbers = numbers_added old.held.wal.entries s.stores (new_store s.next_store name) stands.numbers;
     live = stands.live;
     commit = stands.commit;
@@ -80,24 +73,24 @@ module _ (rules : RulesStay) (keep : PutsKeep) (told : Bool) (name : List ℕ) (
     next_ticket = stands.next_ticket;
     limits = stands.limits;
     copying = stands.copying;
-    loose = loose_is keep told rec n old new s stands makes.puts long;
-    open_block = loose_is keep told rec n old new s stands makes.puts long;
+    loose = loose_is puts;
+    open_block = loose_is puts;
     at_end = refl;
-    size = λ t. size_is keep told rec n old new s stands makes.puts long t;
-    room = inr (omega (arith, number_now, room, max_is));
-    low = omega (arith, number_now, room, max_is, stands.most);
+    size = λ t. size_is puts t;
+    room = inr (room_left puts room);
+    low = omega (arith, room_left puts room, stands.most);
     most = stands.most;
-    within = omega (arith, bytes_are keep told rec n old new s stands makes.puts long, stands.within);
+    within = omega (arith, bytes_are puts, stands.within);
   })
 
   pub made_grows : FileAfter s f (Some (calls.StoreOpen name read_only)) (with_store s name) (f ++ bytes_of makes.puts.out)
-  made_grows = subst (λ (b : Bool). MatchBool b (Grows s f (calls.StoreOpen name read_only) (f ++ bytes_of makes.puts.out)) (f ++ bytes_of makes.puts.out ≡ f)) (sym (eq-eqb (s.place + 1) (s.place + 1) refl))
-      (subst (λ (o : Option Store). MatchOption (if is_none o then Some ((s.loose + n) / 4064) else None) (f ++ bytes_of makes.puts.out ≡ f) (λ m. AddsRecords m f (f ++ bytes_of makes.puts.out)))
-      (sym absent) (adds keep told rec n old new s stands makes.puts long f))
+  made_grows =
+      grows puts f (calls.StoreOpen name read_only) (with_store s name) refl
+      (subst (λ (o : Option Store). MatchOption (if is_none o then Some ((s.loose + n) / 4064) else None) (f ++ bytes_of makes.puts.out ≡ f) (λ m. AddsRecords m f (f ++ bytes_of makes.puts.out))) (sym absent))
 
   pub made_file : RecordsKeepHeader → IsFile told old.held old.file f → IsFile told new.held new.file (f ++ bytes_of makes.puts.out)
   made_file headers was =
-      file_is keep told rec n old new s stands makes.puts long headers f was (ap (λ (h : Held). h.header) makes.rest) (ap (λ (h : Held). h.header_at) makes.rest) (ap (λ (h : Held). h.blocks) makes.rest)
+      file_is puts headers f was (ap (λ (h : Held). h.header) makes.rest) (ap (λ (h : Held). h.header_at) makes.rest) (ap (λ (h : Held). h.blocks) makes.rest)
 
 -- ---- what an opening answers
 
@@ -114,16 +107,7 @@ no_refusal at why e = cc
 
 pub open_updates : RulesStay → RecordsKeepHeader → PutsKeep → (told : Bool) (name : List ℕ) (read_only : Bool) (old new : Moment) (result : Result StoreRef Refusal)
     → OpenAnswers told name read_only old new result → (s : State) (f : File) → StandsAt told old s → IsFile told old.held old.file f → UpdatesAs told replies.Store s f (calls.StoreOpen name read_only) old new result
-open_updates rules headers keep told name read_only old new result answers s f stands was = by (first_cause (open_causes old.held name read_only)) refl answers where
-  refused : (why : Refusal) → first_cause (open_causes old.held name read_only) ≡ Some why → result ≡ Err why → OnlyMemory old new → UpdatesAs told replies.Store s f (calls.StoreOpen name read_only) old new result
-  refused why e is same =
-      let step = open_refused told old.held old.disk old.file s f name read_only stands was.long why e in
-      subst (λ (r : Result StoreRef Refusal). UpdatesAs told replies.Store s f (calls.StoreOpen name read_only) old new r) (sym is) (record {
-        done = tt;
-        refused = λ other h. ap Err (same_refusal why other (sym (ap (λ (o : Outcome). o.0) step) ∙ h));
-        reason = inl (ap (λ (o : Outcome). o.0) step, kept_stands told old new s stands same, kept_file told old new f was same);
-      })
-
+open_updates rules headers keep told name read_only old new result answers s f stands was = answered_as told replies.Store (calls.StoreOpen name read_only) old new s f stands was no_refusal _ result (open_refused told old.held old.disk old.file s f name read_only stands was.long) (by_id (id_named old.held.names name) refl) answers where
   -- it is there
   there : (id : ℕ) → first_cause (open_causes old.held name read_only) ≡ None → id_named old.held.names name ≡ Some id → result ≡ Ok (record { store = id; read_only = read_only }) → OnlyMemory old new
       → UpdatesAs told replies.Store s f (calls.StoreOpen name read_only) old new result
@@ -133,20 +117,11 @@ open_updates rules headers keep told name read_only old new result answers s f s
       open_answered told old.held old.disk old.file s f name read_only stands was.long free
       ∙ ap (λ (o : Option Store). option_map_or {U = Outcome} (λ st. (replies.Store (record { store = st.id; read_only = read_only }), s)) o (replies.Store (record { store = s.next_store; read_only = false }), with_store s name)) found.1
       ∙ ap (λ (m : ℕ). (replies.Store (record { store = m; read_only = read_only }), s)) found.2 in
-      subst (λ (r : Result StoreRef Refusal). UpdatesAs told replies.Store s f (calls.StoreOpen name read_only) old new r) (sym is) (record {
-        done = (
-          ap (λ (o : Outcome). o.0) step,
-          subst (λ (o : Outcome). StandsAt told new o.1) (sym step) (kept_stands told old new s stands same),
-          (
-            f,
-            subst (λ (o : Outcome). FileAfter s f (Some (calls.StoreOpen name read_only)) o.1 f) (sym step)
-                (subst (λ (b : Bool). MatchBool b (Grows s f (calls.StoreOpen name read_only) f) (f ≡ f)) (sym (ne_eqb s.place (s.place + 1) (λ e. absurd (omega (arith, e))))) refl),
-            kept_file told old new f was same,
-          ),
-        );
-        refused = λ other h. absurd (no_refusal _ other (sym (ap (λ (o : Outcome). o.0) step) ∙ h));
-        reason = tt;
-      })
+      subst (λ (r : Result StoreRef Refusal). UpdatesAs told replies.Store s f (calls.StoreOpen name read_only) old new r) (sym is)
+      (done_as told replies.Store (calls.StoreOpen name read_only) old new s f stands was no_refusal (record { store = id; read_only = read_only }) s f step
+      (kept_stands told old new s stands same)
+      (subst (λ (b : Bool). MatchBool b (Grows s f (calls.StoreOpen name read_only) f) (f ≡ f)) (sym (ne_eqb s.place (s.place + 1) (λ e. absurd (omega (arith, e))))) refl)
+      (kept_file told old new f was same))
 
   -- it is made
   made : (r : Result StoreRef Refusal) → first_cause (open_causes old.held name read_only) ≡ None → id_named old.held.names name ≡ None
@@ -167,35 +142,15 @@ open_updates rules headers keep told name read_only old new result answers s f s
     room = has_room _ _ _ (unmet _ _ (none_holds (make_causes old.held name read_only) may).1.1.1.0)
 
     give : (r : Result StoreRef Refusal) → MatchResult r (λ at. (at ≡ record { store = old.held.names.next; read_only = false }) × MakesStore told name old new) (NotPut old new) → UpdatesAs told replies.Store s f (calls.StoreOpen name read_only) old new r
-    give (Ok at) gives = record {
-      done = (
-        ap (λ (o : Outcome). o.0) step ∙ ap (λ (m : ℕ). replies.Store (record { store = m; read_only = false })) (sym stands.next_store) ∙ ap replies.Store (sym gives.0),
-        subst (λ (o : Outcome). StandsAt told new o.1) (sym step) (made_stands rules keep told name read_only old new s f stands absent room step gives.1),
-        (
-          f ++ bytes_of gives.1.puts.out,
-          subst (λ (o : Outcome). FileAfter s f (Some (calls.StoreOpen name read_only)) o.1 (f ++ bytes_of gives.1.puts.out)) (sym step) (made_grows rules keep told name read_only old new s f stands absent room step gives.1),
-          made_file rules keep told name read_only old new s f stands absent room step gives.1 headers was,
-        ),
-      );
-      refused = λ other h. absurd (no_refusal _ other (sym (ap (λ (o : Outcome). o.0) step) ∙ h));
-      reason = tt;
-    }
-    give (Err why) gives = record {
-      done = tt;
-      refused = λ other h. absurd (no_refusal _ other (sym (ap (λ (o : Outcome). o.0) step) ∙ h));
-      reason = elim gives [
-        | inl memory ↦ inr (inl (memory.0, kept_stands told old new s stands memory.1, kept_file told old new f was memory.1))
-        | inr other ↦ elim other [
-          | inl fault ↦ inr (inr (fault.0, inl fault.1))
-          | inr far ↦ absurd (omega (arith, far, stands.at_end, stands.low))
-        ]
-      ];
-    }
+    give (Ok at) gives =
+        done_as told replies.Store (calls.StoreOpen name read_only) old new s f stands was no_refusal at (with_store s name) (f ++ bytes_of gives.1.puts.out)
+        (step ∙ ap (λ (x : StoreRef). (replies.Store x, with_store s name)) (ap (λ (m : ℕ). record { store = m; read_only = false }) (sym stands.next_store) ∙ sym gives.0))
+        (made_stands rules keep told name read_only old new s f stands absent room step gives.1)
+        (made_grows rules keep told name read_only old new s f stands absent room step gives.1)
+        (made_file rules keep told name read_only old new s f stands absent room step gives.1 headers was)
+    give (Err why) gives = failed_as told replies.Store (calls.StoreOpen name read_only) old new s f stands was no_refusal _ why (ap (λ (o : Outcome). o.0) step) gives
 
-  by : (o : Option Refusal) → first_cause (open_causes old.held name read_only) ≡ o
-      → MatchOption o (OpenGives told name read_only old new (id_named old.held.names name) result) (λ why. (result ≡ Err why) × OnlyMemory old new) → UpdatesAs told replies.Store s f (calls.StoreOpen name read_only) old new result
-  by None e h = by_id (id_named old.held.names name) refl h where
-    by_id : (id : Option ℕ) → id_named old.held.names name ≡ id → OpenGives told name read_only old new id result → UpdatesAs told replies.Store s f (calls.StoreOpen name read_only) old new result
-    by_id None named h = made result e named h
-    by_id (Some id) named h = there id e named h.0 h.1
-  by (Some why) e h = refused why e h.0 h.1
+  by_id : (id : Option ℕ) → id_named old.held.names name ≡ id → first_cause (open_causes old.held name read_only) ≡ None → OpenGives told name read_only old new id result
+      → UpdatesAs told replies.Store s f (calls.StoreOpen name read_only) old new result
+  by_id None named free gives = made result free named gives
+  by_id (Some id) named free gives = there id free named gives.0 gives.1
