@@ -10,6 +10,7 @@ pub mod NearerRow
 pub mod NextEntry
 pub mod NextNumber
 pub mod Orders
+pub mod Parts
 pub mod Placed
 pub mod Sorted
 pub mod StoreRows

@@ -10,6 +10,7 @@ mod both;
 mod by_key;
 mod by_number;
 mod copies;
+mod heads;
 mod in_order;
 mod index;
 mod live;

@@ -1,0 +1,136 @@
+//! The first bytes of keys in one array, by which a search finds its place with few looks at the keys themselves. They are
+//! only a hint: a search whose heads are wrong, or aren't there, looks at the keys alone.
+ghost use Rattle.std.specs.Prelude.{◌≡◌, ◌≤◌, ◌<◌, true, length, slice_index_or, IfOk, IfErr, OnErr};
+ghost use Rattle.std.specs.Global.{Box};
+ghost use Rattle.forest_model.specs.Key.{key_cmp};
+ghost use Rattle.forest_model.specs.declared.refusal.Refusal.TheVariants as Refusal;
+ghost use Rattle.forest_model.specs.declared.stored.KeyEntry.{KeyEntry};
+ghost use Rattle.wal_index.specs.Index.{key_at};
+ghost use Rattle.wal_index.specs.Places.{IsAt, IsGap, IsBetween};
+ghost use Rattle.wal_index.specs.Rows.{AreSorted, key_of};
+
+use crate::by_key::{compare, place};
+use forest_model::{KeyEntry, Refusal};
+use std::alloc::Global;
+
+/// The store of a row and the first 8 bytes of its key, the first as the highest; bytes that aren't there count as 0.
+#[derive(Clone, Copy)]
+pub(crate) struct Head {
+    store: u64,
+    first: u64,
+}
+
+pub(crate) fn head_of(store: u64, key: &[u8]) -> Head {
+    let mut bytes = [0; 8];
+    let count = key.len().min(8);
+    bytes[..count].copy_from_slice(&key[..count]);
+    Head {
+        store,
+        first: u64::from_be_bytes(bytes),
+    }
+}
+
+fn is_below(a: Head, b: Head) -> bool {
+    a.store < b.store || (a.store == b.store && a.first < b.first)
+}
+
+// How many heads stand before a head, those that are the same among them or not.
+fn border(heads: &[Head], head: Head, with: bool) -> usize
+    ensures { result ≤ length heads.now }
+{
+    heads.partition_point(|other| {
+        if with {
+            !is_below(head, *other)
+        } else {
+            is_below(*other, head)
+        }
+    })
+}
+
+// Whether all rows before a place have lower keys, as the last of them tells.
+fn is_behind(rows: &[Box<KeyEntry>], low: usize, store: u64, key: &[u8]) -> bool
+    requires sorted { AreSorted rows.now }
+    requires within { low ≤ length rows.now }
+    ensures { result ≡ true → IsBetween key_cmp key_of (key_at store key.now) rows.now low (length rows.now) }
+{
+    low == 0 || compare(&rows[low - 1], store, key).is_lt()
+}
+
+// Whether all rows from a place on have higher keys, as the first of them tells.
+fn is_before(rows: &[Box<KeyEntry>], high: usize, store: u64, key: &[u8]) -> bool
+    requires sorted { AreSorted rows.now }
+    requires within { high ≤ length rows.now }
+    ensures { result ≡ true → IsBetween key_cmp key_of (key_at store key.now) rows.now 0 high }
+{
+    high == rows.len() || compare(&rows[high], store, key).is_gt()
+}
+
+// Where the row of a key stands, and where it would, in a part of the rows outside of which it doesn't.
+fn place_in(
+    rows: &[Box<KeyEntry>],
+    low: usize,
+    high: usize,
+    store: u64,
+    key: &[u8],
+) -> Result<usize, usize>
+    requires sorted { AreSorted rows.now }
+    requires part { low ≤ high }
+    requires within { high ≤ length rows.now }
+    requires behind { IsBetween key_cmp key_of (key_at store key.now) rows.now low (length rows.now) }
+    requires before { IsBetween key_cmp key_of (key_at store key.now) rows.now 0 high }
+    ensures at { IfOk result (λ i. IsAt key_cmp key_of (key_at store key.now) rows.now i) }
+    ensures gap { IfErr result (λ i. IsGap key_cmp key_of (key_at store key.now) rows.now i) }
+{
+    match place(&rows[low..high], store, key) {
+        Ok(at) => Ok(low + at),
+        Err(at) => Err(low + at),
+    }
+}
+
+// Where the row of a key stands, and where it would, with few looks at keys where the heads are those of the rows.
+pub(crate) fn place_by(
+    rows: &[Box<KeyEntry>],
+    heads: &[Head],
+    store: u64,
+    key: &[u8],
+) -> Result<usize, usize>
+    requires { AreSorted rows.now }
+    ensures at { IfOk result (λ i. IsAt key_cmp key_of (key_at store key.now) rows.now i) }
+    ensures gap { IfErr result (λ i. IsGap key_cmp key_of (key_at store key.now) rows.now i) }
+{
+    let head = head_of(store, key);
+    let low = border(heads, head, false).min(rows.len());
+    let high = border(heads, head, true).min(rows.len());
+    if low <= high && is_behind(rows, low, store, key) && is_before(rows, high, store, key) {
+        place_in(rows, low, high, store, key)
+    } else {
+        place(rows, store, key)
+    }
+}
+
+// Takes the heads that aren't above a head. They rise.
+fn take_through<'a>(left: &mut &'a [Head], head: Head) -> &'a [Head] {
+    let all = *left;
+    let count = border(all, head, true);
+    *left = &all[count..];
+    &all[..count]
+}
+
+// The heads of rows with those of others put among them. Both rise.
+pub(crate) fn merged_heads(
+    alloc: Global,
+    heads: &[Head],
+    recent: &[Box<KeyEntry>],
+) -> Result<Vec<Head>, Refusal>
+    ensures memory { OnErr result (result ≡ Err Refusal.NoMemory) }
+{
+    let mut merged = Vec::with_capacity(alloc, heads.len() + recent.len())?;
+    let mut left = heads;
+    for row in recent {
+        let head = head_of(row.store, row.key.as_slice());
+        merged.extend_from_slice(take_through(&mut left, head))?;
+        merged.push(head)?;
+    }
+    merged.extend_from_slice(left)?;
+    Ok(merged)
+}
