@@ -1,4 +1,4 @@
-ghost use Rattle.std.specs.Prelude.{◌≡◌, ◌≤◌, ◌+◌, ◌<◌, not, ◌==◌, filter, true, is_some, IfOk, IfErr, OnOk, OnErr, Some, None, vec_len, vec_capacity};
+ghost use Rattle.std.specs.Prelude.{◌≡◌, ◌≤◌, ◌+◌, ◌<◌, not, ◌==◌, filter, IfOk, IfErr, vec_len, vec_capacity};
 ghost use Rattle.std.specs.FinMap as finite;
 ghost use Rattle.forest_model.specs.Key.{key_cmp};
 ghost use Rattle.wal_index.specs.Index.{key_at};
@@ -55,26 +55,6 @@ pub(crate) fn put(rows: &mut RowList, row: Box<KeyEntry>) -> Option<Entry>
             let _room = rows.insert(at, row);
             None
         }
-    }
-}
-
-// Puts a row in the place of that of its key, whose entry it answers, or gives it back where there is none.
-pub(crate) fn replace(rows: &mut RowList, row: Box<KeyEntry>) -> Result<Entry, Box<KeyEntry>>
-    requires { AreSorted rows.old.items }
-    ensures put { OnOk result (pairs rows.new.items ≡ finite.put key_cmp (pair_of row).0 (pair_of row).1 (pairs rows.old.items)) }
-    ensures found { OnOk result (is_some (finite.find key_cmp (pair_of row).0 (pairs rows.old.items)) ≡ true) }
-    ensures older { IfOk result (λ older. finite.find key_cmp (pair_of row).0 (pairs rows.old.items) ≡ Some older) }
-    ensures back { IfErr result (λ same. same.value ≡ row.value) }
-    ensures kept { OnErr result (rows.new.items ≡ rows.old.items) }
-    ensures absent { OnErr result (finite.find key_cmp (pair_of row).0 (pairs rows.old.items) ≡ None) }
-{
-    match place(rows.as_slice(), row.store, row.key.as_slice()) {
-        Ok(at) => {
-            let older = rows[at].entry;
-            rows[at] = row;
-            Ok(older)
-        }
-        Err(_) => Err(row),
     }
 }
 

@@ -1,16 +1,15 @@
 //! The first bytes of keys in one array, by which a search finds its place with few looks at the keys themselves. They are
 //! only a hint: a search whose heads are wrong, or aren't there, looks at the keys alone.
-ghost use Rattle.std.specs.Prelude.{◌≡◌, ◌≤◌, ◌<◌, true, length, slice_index_or, IfOk, IfErr, OnErr};
-ghost use Rattle.std.specs.Global.{Box};
+ghost use Rattle.std.specs.Prelude.{◌≡◌, ◌≤◌, true, length, is_some, IfOk, IfErr, OnOk, OnErr, Some, None};
+ghost use Rattle.std.specs.FinMap as finite;
 ghost use Rattle.forest_model.specs.Key.{key_cmp};
 ghost use Rattle.forest_model.specs.declared.refusal.Refusal.TheVariants as Refusal;
-ghost use Rattle.forest_model.specs.declared.stored.KeyEntry.{KeyEntry};
 ghost use Rattle.wal_index.specs.Index.{key_at};
 ghost use Rattle.wal_index.specs.Places.{IsAt, IsGap, IsBetween};
-ghost use Rattle.wal_index.specs.Rows.{AreSorted, key_of};
+ghost use Rattle.wal_index.specs.Rows.{AreSorted, key_of, pair_of, pairs};
 
-use crate::by_key::{compare, place};
-use forest_model::{KeyEntry, Refusal};
+use crate::by_key::{RowList, compare, place};
+use forest_model::{Entry, KeyEntry, Refusal};
 use std::alloc::Global;
 
 /// The store of a row and the first 8 bytes of its key, the first as the highest; bytes that aren't there count as 0.
@@ -105,6 +104,45 @@ pub(crate) fn place_by(
         place_in(rows, low, high, store, key)
     } else {
         place(rows, store, key)
+    }
+}
+
+pub(crate) fn get_by(
+    rows: &[Box<KeyEntry>],
+    heads: &[Head],
+    store: u64,
+    key: &[u8],
+) -> Option<Entry>
+    requires { AreSorted rows.now }
+    ensures { result ≡ finite.find key_cmp (key_at store key.now) (pairs rows.now) }
+{
+    match place_by(rows, heads, store, key) {
+        Ok(at) => Some(rows[at].entry),
+        Err(_) => None,
+    }
+}
+
+// Puts a row in the place of that of its key, whose entry it answers, or gives it back where there is none.
+pub(crate) fn replace_by(
+    rows: &mut RowList,
+    heads: &[Head],
+    row: Box<KeyEntry>,
+) -> Result<Entry, Box<KeyEntry>>
+    requires { AreSorted rows.old.items }
+    ensures put { OnOk result (pairs rows.new.items ≡ finite.put key_cmp (pair_of row).0 (pair_of row).1 (pairs rows.old.items)) }
+    ensures found { OnOk result (is_some (finite.find key_cmp (pair_of row).0 (pairs rows.old.items)) ≡ true) }
+    ensures older { IfOk result (λ older. finite.find key_cmp (pair_of row).0 (pairs rows.old.items) ≡ Some older) }
+    ensures back { IfErr result (λ same. same.value ≡ row.value) }
+    ensures kept { OnErr result (rows.new.items ≡ rows.old.items) }
+    ensures absent { OnErr result (finite.find key_cmp (pair_of row).0 (pairs rows.old.items) ≡ None) }
+{
+    match place_by(rows.as_slice(), heads, row.store, row.key.as_slice()) {
+        Ok(at) => {
+            let older = rows[at].entry;
+            rows[at] = row;
+            Ok(older)
+        }
+        Err(_) => Err(row),
     }
 }
 

@@ -9,6 +9,7 @@ ghost use Rattle.wal_index.specs.Merged.{AreRows, all_pairs};
 ghost use Rattle.wal_index.specs.Rows.{pair_of};
 
 use crate::by_key::{self, RowList};
+use crate::heads::{Head, get_by, merged_heads, replace_by};
 use crate::live::live_of;
 use crate::merge::settle;
 use crate::nearest::{nearer, next_in};
@@ -21,11 +22,12 @@ const FEW: usize = 1_024;
 const SHARE: usize = 16;
 
 /// Rows of keys that are apart, in two lists: new keys go into the short one, which is merged into the other at times, so
-/// that a put doesn't move all rows.
+/// that a put doesn't move all rows. The heads are those of the settled rows, or none.
 #[derive(Drop)]
 pub(crate) struct Rows {
     pub(crate) settled: RowList,
     pub(crate) recent: RowList,
+    heads: Vec<Head>,
 }
 
 impl Rows {
@@ -37,6 +39,7 @@ impl Rows {
         Rows {
             settled: Vec::new(alloc),
             recent: Vec::new(alloc),
+            heads: Vec::new(alloc),
         }
     }
 
@@ -48,6 +51,7 @@ impl Rows {
         Rows {
             settled,
             recent: Vec::new(alloc),
+            heads: Vec::new(alloc),
         }
     }
 
@@ -57,7 +61,7 @@ impl Rows {
     {
         match by_key::get(self.recent.as_slice(), store, key) {
             Some(entry) => Some(entry),
-            None => by_key::get(self.settled.as_slice(), store, key),
+            None => get_by(self.settled.as_slice(), self.heads.as_slice(), store, key),
         }
     }
 
@@ -103,10 +107,22 @@ impl Rows {
         ensures len { vec_len self.new.recent ≤ vec_len self.old.recent + 1 }
         ensures older { result ≡ finite.find key_cmp (pair_of row).0 (all_pairs self.old.settled.items self.old.recent.items) }
     {
-        match by_key::replace(&mut self.settled, row) {
+        match replace_by(&mut self.settled, self.heads.as_slice(), row) {
             Ok(older) => Some(older),
             Err(row) => by_key::put(&mut self.recent, row),
         }
+    }
+
+    // The heads of the rows of both lists, for which those of the settled rows are made anew where there are none.
+    fn heads_with_recent(&self, alloc: Global) -> Result<Vec<Head>, Refusal>
+        ensures memory { OnErr result (result ≡ Err Refusal.NoMemory) }
+    {
+        let recent = self.recent.as_slice();
+        if self.heads.len() == self.settled.len() {
+            return merged_heads(alloc, self.heads.as_slice(), recent);
+        }
+        let settled = merged_heads(alloc, &[], self.settled.as_slice())?;
+        merged_heads(alloc, settled.as_slice(), recent)
     }
 
     // Takes memory for so many new keys, and settles the recent rows where they are too many.
@@ -121,7 +137,9 @@ impl Rows {
     {
         let recent = self.recent.len();
         if recent > FEW && recent > self.settled.len() / SHARE {
+            let heads = self.heads_with_recent(alloc)?;
             settle(alloc, &mut self.settled, &mut self.recent)?;
+            self.heads = heads;
         }
         self.recent.reserve(spare)?;
         Ok(())
@@ -135,6 +153,7 @@ impl Rows {
         ensures capacity { vec_capacity self.old.recent ≤ vec_capacity self.new.recent }
         ensures len { vec_len self.new.recent ≤ vec_len self.old.recent }
     {
+        self.heads.clear();
         by_key::remove_store(&mut self.settled, store);
         by_key::remove_store(&mut self.recent, store);
     }
@@ -145,6 +164,7 @@ impl Rows {
         ensures len { vec_len self.new.recent ≡ 0 }
         ensures capacity { vec_capacity self.old.recent ≤ vec_capacity self.new.recent }
     {
+        self.heads.clear();
         self.settled.clear();
         self.recent.clear();
     }

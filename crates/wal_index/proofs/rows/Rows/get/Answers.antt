@@ -17,7 +17,7 @@ returns-in-Some c =
 pub returns-in-None : goal.returns-in-None
 returns-in-None c =
     let q = key_at c.args.store c.args.key.now in
-    c.get-in-None.ensures
+    c.get_by.ensures
     ∙ ap (λ (rows : List (Box KeyEntry)). finite.find key_cmp q (pairs rows)) c.as_slice-in-None.ensures.value
     ∙ found_settled c.args.self.now.settled.items c.args.self.now.recent.items q
     (ap (λ (rows : List (Box KeyEntry)). finite.find key_cmp q (pairs rows)) (sym c.as_slice.ensures.value) ∙ sym c.get.ensures ∙ c.in-None.is)

@@ -23,10 +23,10 @@ returns-in-Err-clause-put c =
     ∙ put_recent_pairs c.args.self.now.settled.items c.args.self.now.recent.items c.put.new.rows.items (key_of row) row.value.entry c.requires.rows put
 
 pub returns-in-Ok-clause-rows : goal.returns-in-Ok-clause-rows
-returns-in-Ok-clause-rows c = put_settled c.args.self.now.settled.items c.replace.new.rows.items c.args.self.now.recent.items (key_of c.args.row) c.args.row.value.entry c.requires.rows c.in-Ok.ensures.put c.in-Ok.ensures.found
+returns-in-Ok-clause-rows c = put_settled c.args.self.now.settled.items c.replace_by.new.rows.items c.args.self.now.recent.items (key_of c.args.row) c.args.row.value.entry c.requires.rows c.in-Ok.ensures.put c.in-Ok.ensures.found
 
 pub returns-in-Ok-clause-put : goal.returns-in-Ok-clause-put
-returns-in-Ok-clause-put c = put_settled_pairs c.args.self.now.settled.items c.replace.new.rows.items c.args.self.now.recent.items (key_of c.args.row) c.args.row.value.entry c.requires.rows c.in-Ok.ensures.put c.in-Ok.ensures.found
+returns-in-Ok-clause-put c = put_settled_pairs c.args.self.now.settled.items c.replace_by.new.rows.items c.args.self.now.recent.items (key_of c.args.row) c.args.row.value.entry c.requires.rows c.in-Ok.ensures.put c.in-Ok.ensures.found
 
 pub returns-in-Ok-clause-older : goal.returns-in-Ok-clause-older
 returns-in-Ok-clause-older c = older_settled c.args.self.now.settled.items c.args.self.now.recent.items (key_of c.args.row) c.in-Ok.older c.requires.rows c.in-Ok.ensures.older

@@ -5,7 +5,7 @@ use Rattle.wal_index.specs.Rows.{key_of, pair_of}
 use Rattle.wal_index.proofs.Orders.{exact_keys}
 use Rattle.wal_index.proofs.Placed.{row_at, row_gap}
 use Rattle.wal_index.proofs.Sorted.{found_at, found_there, found_nowhere, put_over}
-use Rattle.wal_index.proofs.by_key.replace.Goals as goal
+use Rattle.wal_index.proofs.heads.replace_by.Goals as goal
 
 pub returns-in-Ok-clause-put : goal.returns-in-Ok-clause-put
 returns-in-Ok-clause-put c =
