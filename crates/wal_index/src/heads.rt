@@ -13,7 +13,7 @@ use forest_model::{Entry, KeyEntry, Refusal};
 use std::alloc::Global;
 
 /// The store of a row and the first 8 bytes of its key, the first as the highest; bytes that aren't there count as 0.
-#[derive(Clone, Copy)]
+#[derive(Clone, Copy, PartialEq)]
 pub(crate) struct Head {
     store: u64,
     first: u64,
