@@ -1,19 +1,21 @@
 -- Where a binary search finds a key.
-use Rattle.std.proofs.Common.{◌≡◌, ℕ, zero, suc, ◌<◌, ◌≤◌, T, List, length, map, refl, ap, ◌∙◌, subst, arith, get_or, ◌⊎◌, inl, inr}
+use Rattle.std.proofs.Common.{◌≡◌, ℕ, zero, suc, ◌<◌, ◌≤◌, ◌+◌, T, List, length, map, refl, sym, ap, ◌∙◌, subst, arith, get_or, ◌⊎◌, inl, inr}
 use Rattle.std.specs.Prelude.{Result, Ok, Err, IfOk, IfErr}
 use Rattle.std.specs.Cmp.{IsTotalOrder, tied_back}
 use Rattle.std.specs.FinMap as finite
 use Rattle.std.specs.Global.{Box}
 use Rattle.std.specs.List.Sorted.{IsBinarySearchResult, IsSearchInRange, IsNonDecreasingBy}
-use Rattle.std.specs.Ordering.{ordering_index}
+use Rattle.std.specs.Ordering.{is_lt, ordering_index}
 use Rattle.std.specs.declared.cmp.Ordering.{Ordering}
+use Rattle.std.specs.declared.cmp.Ordering.TheVariants.{Less}
+use Rattle.std.proofs.lemmas.List.{get_or_default}
 use Rattle.forest_model.specs.Key.{key_cmp}
 use Rattle.forest_model.specs.declared.documents.DocKey.{DocKey}
 use Rattle.forest_model.specs.declared.stored.KeyEntry.{KeyEntry}
 use Rattle.wal_index.specs.Index.{key_at}
 use Rattle.wal_index.specs.Places.{IsAt, IsGap}
 use Rattle.wal_index.specs.Rows.{key_of}
-use Rattle.wal_index.proofs.Sorted.{rising, below_too, turned_less, turned_greater, before_tied, behind_tied}
+use Rattle.wal_index.proofs.Sorted.{less, rising, below_too, turned_less, turned_greater, before_tied, behind_tied}
 
 pub le_cases : (i j : ℕ) → i ≤ j → (i < j) ⊎ (i ≡ j)
 le_cases zero zero l = inr refl
@@ -52,6 +54,19 @@ module _ {K X A : Type 0} {R : K → K → Ordering} (o : IsTotalOrder R) (f : A
           behind = λ j d l m. turned_greater o _ q (parted.1 j d l m);
         };
       }
+
+  -- behind the last
+  pub gap_behind : (q : K) (xs : List A) (at n : ℕ) (last : A) → T (finite.is_sorted R (map f xs)) → at + 1 ≡ length xs → n ≡ length xs → last ≡ get_or xs at last → T (is_lt (R (f last).0 q)) → IsGap R (λ a. (f a).0) q xs n
+  gap_behind q xs at n last sorted len n_is is low = record {
+    within = omega (arith, n_is);
+    around = record {
+      before = λ j d l. turned_less o _ q (elim (le_cases j at (omega (arith, len, n_is, l))) [
+        | inl below ↦ o.trans _ (f last).0 q (subst (λ (z : A). R (f (get_or xs j d)).0 (f z).0 ≡ Less) (sym (is ∙ get_or_default xs at last d (omega (arith, len)))) (rising R f xs sorted j at d below (omega (arith, len)))) (less _ low)
+        | inr same ↦ subst (λ n. R (f (get_or xs n d)).0 q ≡ Less) (sym same) (subst (λ (z : A). R (f z).0 q ≡ Less) (is ∙ get_or_default xs at last d (omega (arith, len))) (less _ low))
+      ]);
+      behind = λ j d l m. absurd (omega (arith, n_is, l, m));
+    };
+  }
 
 -- ---- the place of a row's key, which was searched by copies of its parts
 

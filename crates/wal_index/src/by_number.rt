@@ -21,10 +21,13 @@ pub(crate) type Numbers = Vec<Box<Numbered>>;
 fn compare(number: &Numbered, store: u64, seq: u64, key: &[u8]) -> Ordering
     ensures { result ≡ number_cmp number.now (numbers_at store seq key.now) }
 {
-    number
-        .store
-        .cmp(&store)
-        .then(number.seq.cmp(&seq).then(number.key.as_slice().cmp(key)))
+    match number.store.cmp(&store) {
+        Ordering::Equal => match number.seq.cmp(&seq) {
+            Ordering::Equal => number.key.as_slice().cmp(key),
+            by_seq => by_seq,
+        },
+        by_store => by_store,
+    }
 }
 
 // Where the number of a key stands, and where it would.
@@ -41,6 +44,21 @@ pub(crate) fn place(
     numbers.binary_search_by(|number| compare(number, store, seq, key))
 }
 
+// The same, quick for a number behind all others.
+fn place_late(numbers: &[Box<Numbered>], store: u64, seq: u64, key: &[u8]) -> Result<usize, usize>
+    requires { AreNumbersSorted numbers.now }
+    ensures at { IfOk result (λ i. IsAt number_cmp number_of (numbers_at store seq key.now) numbers.now i) }
+    ensures gap { IfErr result (λ i. IsGap number_cmp number_of (numbers_at store seq key.now) numbers.now i) }
+{
+    let count = numbers.len();
+    if count > 0 {
+        if compare(&numbers[count - 1], store, seq, key).is_lt() {
+            return Err(count);
+        }
+    }
+    place(numbers, store, seq, key)
+}
+
 // Puts a number where it belongs. There is capacity for it.
 pub(crate) fn put_number(numbers: &mut Numbers, number: Box<Numbered>)
     requires sorted { AreNumbersSorted numbers.old.items }
@@ -49,7 +67,7 @@ pub(crate) fn put_number(numbers: &mut Numbers, number: Box<Numbered>)
     ensures capacity { vec_capacity numbers.old ≤ vec_capacity numbers.new }
     ensures len { vec_len numbers.new ≤ vec_len numbers.old + 1 }
 {
-    match place(
+    match place_late(
         numbers.as_slice(),
         number.store,
         number.seq,
