@@ -1,3 +1,4 @@
+pub mod BelowLast
 pub mod ByNumber
 pub mod Found
 pub mod Maps

@@ -61,22 +61,28 @@ module _ {K X : Type 0} {R : K → K → Ordering} (o : IsTotalOrder R) where
       ap (λ r. by_order r (f ∷ e ∷ es) ((e.0, f.1) ∷ es) (e ∷ finite.put R f.0 f.1 es)) (turned_less o e.0 f.0 (less _ (first _ _ h)))
       ∙ ap (λ xs. e ∷ xs) (put_back f es (second _ _ h))
 
-  put_before_last : (g : K × X) (es : List (K × X)) (e : K × X) → R g.0 e.0 ≡ Less → finite.put R g.0 g.1 (es ++ e ∷ []) ≡ finite.put R g.0 g.1 es ++ e ∷ []
-  put_before_last g [] e l = ap (λ r. by_order r (g ∷ e ∷ []) ((e.0, g.1) ∷ []) (e ∷ g ∷ [])) l
-  put_before_last g (x ∷ es) e l =
-      elim (R g.0 x.0) as (λ r. by_order r (g ∷ x ∷ (es ++ e ∷ [])) ((x.0, g.1) ∷ (es ++ e ∷ [])) (x ∷ finite.put R g.0 g.1 (es ++ e ∷ [])) ≡ by_order r (g ∷ x ∷ es) ((x.0, g.1) ∷ es) (x ∷ finite.put R g.0 g.1 es) ++ e ∷ []) [
+  put_before : (g : K × X) (es hs : List (K × X)) → T (below_all R g.0 hs) → finite.put R g.0 g.1 (es ++ hs) ≡ finite.put R g.0 g.1 es ++ hs
+  put_before g [] hs h = put_front g hs h
+  put_before g (x ∷ es) hs h =
+      elim (R g.0 x.0) as (λ r. by_order r (g ∷ x ∷ (es ++ hs)) ((x.0, g.1) ∷ (es ++ hs)) (x ∷ finite.put R g.0 g.1 (es ++ hs)) ≡ by_order r (g ∷ x ∷ es) ((x.0, g.1) ∷ es) (x ∷ finite.put R g.0 g.1 es) ++ hs) [
         | Less ↦ refl
         | Equal ↦ refl
-        | Greater ↦ ap (λ xs. x ∷ xs) (put_before_last g es e l)
+        | Greater ↦ ap (λ xs. x ∷ xs) (put_before g es hs h)
       ]
 
-  merged_snoc : (es fs : List (K × X)) (f : K × X) → merged R es (fs ++ f ∷ []) ≡ merged R (finite.put R f.0 f.1 es) fs
+  pub merged_snoc : (es fs : List (K × X)) (f : K × X) → merged R es (fs ++ f ∷ []) ≡ merged R (finite.put R f.0 f.1 es) fs
   merged_snoc es [] f = refl
   merged_snoc es (g ∷ fs) f = ap (finite.put R g.0 g.1) (merged_snoc es fs f)
 
+  -- those from e on stay behind
+  pub merged_before : (es hs fs : List (K × X)) (e : K × X) → T (above_all R e.0 fs) → T (below_all R e.0 hs) → merged R (es ++ e ∷ hs) fs ≡ merged R es fs ++ e ∷ hs
+  merged_before es hs [] e g h = refl
+  merged_before es hs (f ∷ fs) e g h =
+      ap (finite.put R f.0 f.1) (merged_before es hs fs e (second _ _ g) h)
+      ∙ put_before f (merged R es fs) (e ∷ hs) (both _ _ (first _ _ g) (below_more f.0 e.0 hs (less _ (first _ _ g)) h))
+
   pub back_first : (es fs : List (K × X)) (e : K × X) → T (above_all R e.0 fs) → merged R (es ++ e ∷ []) fs ≡ merged R es fs ++ e ∷ []
-  back_first es [] e h = refl
-  back_first es (f ∷ fs) e h = ap (finite.put R f.0 f.1) (back_first es fs e (second _ _ h)) ∙ put_before_last f (merged R es fs) e (less _ (first _ _ h))
+  back_first es fs e h = merged_before es [] fs e h tt
 
   pub back_second : (es fs : List (K × X)) (f : K × X) → T (above_all R f.0 es) → T (above_all R f.0 fs) → merged R es (fs ++ f ∷ []) ≡ merged R es fs ++ f ∷ []
   back_second es fs f g h = merged_snoc es fs f ∙ ap (λ xs. merged R xs fs) (put_back f es g) ∙ back_first es fs f h

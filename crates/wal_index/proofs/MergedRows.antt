@@ -1,5 +1,5 @@
 -- The first and the last row of two lists of rows.
-use Rattle.std.proofs.Common.{◌≡◌, inl, inr, ℕ, ◌<◌, ◌+◌, true, false, T, List, [], ◌∷◌, ◌++◌, length, map, refl, sym, ap, ◌∙◌, subst, arith, get_or}
+use Rattle.std.proofs.Common.{◌≡◌, ℕ, ◌<◌, ◌+◌, true, false, T, List, [], ◌∷◌, ◌++◌, length, map, refl, ap, ◌∙◌, subst, arith, get_or}
 use Rattle.std.proofs.lemmas.List.{map-append, get_or_at, length-append}
 use Rattle.std.specs.Cmp.{IsTotalOrder}
 use Rattle.std.specs.FinMap as finite
@@ -7,8 +7,8 @@ use Rattle.std.specs.Ordering.{is_lt}
 use Rattle.std.specs.declared.cmp.Ordering.{Ordering}
 use Rattle.std.specs.declared.cmp.Ordering.TheVariants.{Less, Equal, Greater}
 use Rattle.wal_index.specs.Merged.{merged, AreApart}
-use Rattle.wal_index.proofs.Merged.{found_here, found_last, apart_front}
-use Rattle.wal_index.proofs.MergedEnds.{front_first, front_second, back_first, back_second, below_more, above_front, above_more, above_last, above_all, sorted_front, not_tied, snoc_cases}
+use Rattle.wal_index.proofs.Merged.{found_here, apart_front}
+use Rattle.wal_index.proofs.MergedEnds.{front_first, front_second, below_more, sorted_front, not_tied}
 use Rattle.wal_index.proofs.Sorted.{first, both, below, turned_greater}
 
 lower : (r : Ordering) → true ≡ is_lt r → r ≡ Less
@@ -42,10 +42,10 @@ module _ {K X A : Type 0} {R : K → K → Ordering} (o : IsTotalOrder R) (f : A
 
   -- ---- the last
 
-  pairs_snoc : (xs front : List A) (r : A) → xs ≡ front ++ r ∷ [] → map f xs ≡ map f front ++ f r ∷ []
+  pub pairs_snoc : (xs front : List A) (r : A) → xs ≡ front ++ r ∷ [] → map f xs ≡ map f front ++ f r ∷ []
   pairs_snoc xs front r is = ap (map f) is ∙ map-append f front (r ∷ [])
 
-  last_there : (xs front : List A) (r : A) (at : ℕ) (d : A) → xs ≡ front ++ r ∷ [] → at + 1 ≡ length xs → get_or xs at d ≡ r
+  pub last_there : (xs front : List A) (r : A) (at : ℕ) (d : A) → xs ≡ front ++ r ∷ [] → at + 1 ≡ length xs → get_or xs at d ≡ r
   last_there xs front r at d is len = ap (λ zs. get_or zs at d) is ∙ get_or_at front r [] d at (omega (arith, len, ap length is, length-append front (r ∷ [])))
 
   pub without_last : (xs front : List A) (r : A) → xs ≡ front ++ r ∷ [] → T (finite.is_sorted R (map f xs)) → T (finite.is_sorted R (map f front))
@@ -53,40 +53,3 @@ module _ {K X A : Type 0} {R : K → K → Ordering} (o : IsTotalOrder R) (f : A
 
   pub apart_without_last : (es : List (K × X)) (xs front : List A) (r : A) → xs ≡ front ++ r ∷ [] → AreApart R es (map f xs) → AreApart R es (map f front)
   apart_without_last es xs front r is apart = apart_front o es (map f front) (f r) (subst (λ zs. AreApart R es zs) (pairs_snoc xs front r is) apart)
-
-  pub last_of_settled : (xs front ys : List A) (r : A) (at yat : ℕ) → xs ≡ front ++ r ∷ [] → T (finite.is_sorted R (map f ys)) → AreApart R (map f xs) (map f ys)
-      → (0 < length ys → (at + 1 ≡ length xs) × (yat + 1 ≡ length ys) × ((d : A) → false ≡ is_lt (R (f (get_or xs at d)).0 (f (get_or ys yat d)).0)))
-      → merged R (map f xs) (map f ys) ≡ merged R (map f front) (map f ys) ++ f r ∷ []
-  last_of_settled xs front ys r at yat is h apart low = elim (snoc_cases ys) [
-    | inl none ↦ ap (λ zs. merged R (map f xs) (map f zs)) none ∙ pairs_snoc xs front r is ∙ sym (ap (λ zs. merged R (map f front) (map f zs) ++ f r ∷ []) none)
-    | inr s ↦
-        let yf = s.0 in
-        let y = s.1 in
-        let ys_is : map f ys ≡ map f yf ++ f y ∷ [] = pairs_snoc ys yf y s.2 in
-        let some : 0 < length ys = omega (arith, ap length s.2, length-append yf (y ∷ [])) in
-        let facts = low some in
-        let tie : R (f r).0 (f y).0 ≡ Equal → ⊥ = not_tied o (map f front ++ f r ∷ []) (map f yf ++ f y ∷ []) (f r).0 (f y).0 (subst (λ zs. AreApart R zs (map f yf ++ f y ∷ [])) (pairs_snoc xs front r is) (subst (λ zs. AreApart R (map f xs) zs) ys_is apart)) (found_last o (f r) (map f front)) (found_last o (f y) (map f yf)) in
-        let greater : R (f r).0 (f y).0 ≡ Greater = higher _ (facts.2 r ∙ ap (λ (z : A). is_lt (R (f z).0 (f (get_or ys yat r)).0)) (last_there xs front r at r is facts.0) ∙ ap (λ (z : A). is_lt (R (f r).0 (f z).0)) (last_there ys yf y yat r s.2 facts.1)) tie in
-        let less = turned_greater o (f r).0 (f y).0 greater in
-        let above : T (above_all R (f r).0 (map f ys)) = subst (λ zs. T (above_all R (f r).0 zs)) (sym ys_is) (above_last o (f r).0 (map f yf) (f y) less (above_more o (f r).0 (f y).0 (map f yf) less (above_front o (map f yf) (f y) (subst (λ zs. T (finite.is_sorted R zs)) ys_is h)))) in
-        ap (λ zs. merged R zs (map f ys)) (pairs_snoc xs front r is) ∙ back_first o (map f front) (map f ys) (f r) above
-  ]
-
-  pub last_of_recent : (xs ys front : List A) (r : A) (at yat : ℕ) → ys ≡ front ++ r ∷ [] → T (finite.is_sorted R (map f xs)) → T (finite.is_sorted R (map f ys))
-      → (0 < length xs → (at + 1 ≡ length xs) × (yat + 1 ≡ length ys) × ((d : A) → true ≡ is_lt (R (f (get_or xs at d)).0 (f (get_or ys yat d)).0)))
-      → merged R (map f xs) (map f ys) ≡ merged R (map f xs) (map f front) ++ f r ∷ []
-  last_of_recent xs ys front r at yat is g h low =
-      let ys_is : map f ys ≡ map f front ++ f r ∷ [] = pairs_snoc ys front r is in
-      let own : T (above_all R (f r).0 (map f front)) = above_front o (map f front) (f r) (subst (λ zs. T (finite.is_sorted R zs)) ys_is h) in
-      let above : T (above_all R (f r).0 (map f xs)) = elim (snoc_cases xs) [
-        | inl none ↦ subst (λ zs. T (above_all R (f r).0 (map f zs))) (sym none) tt
-        | inr s ↦
-            let xf = s.0 in
-            let x = s.1 in
-            let xs_is : map f xs ≡ map f xf ++ f x ∷ [] = pairs_snoc xs xf x s.2 in
-            let some : 0 < length xs = omega (arith, ap length s.2, length-append xf (x ∷ [])) in
-            let facts = low some in
-            let less : R (f x).0 (f r).0 ≡ Less = lower _ (facts.2 r ∙ ap (λ (z : A). is_lt (R (f z).0 (f (get_or ys yat r)).0)) (last_there xs xf x at r s.2 facts.0) ∙ ap (λ (z : A). is_lt (R (f x).0 (f z).0)) (last_there ys front r yat r is facts.1)) in
-            subst (λ zs. T (above_all R (f r).0 zs)) (sym xs_is) (above_last o (f r).0 (map f xf) (f x) less (above_more o (f r).0 (f x).0 (map f xf) less (above_front o (map f xf) (f x) (subst (λ zs. T (finite.is_sorted R zs)) xs_is g))))
-      ] in
-      ap (merged R (map f xs)) ys_is ∙ back_second o (map f xs) (map f front) (f r) above own

@@ -1,8 +1,8 @@
 -- Loops that take all rows of two lists, from the last on or from the first.
-use Rattle.std.proofs.Common.{◌≡◌, ◌+◌, List, [], ◌∷◌, ◌++◌, length, map, refl, sym, ap, ◌∙◌, arith}
+use Rattle.std.proofs.Common.{◌≡◌, ℕ, zero, suc, ◌+◌, List, [], ◌∷◌, ◌++◌, length, take, drop, map, refl, sym, ap, ◌∙◌, arith}
 use Rattle.std.specs.Prelude.{reverse}
 use Rattle.std.specs.Global.{Box}
-use Rattle.std.proofs.lemmas.List.{append_assoc, append-nil, map-append, reverse-append}
+use Rattle.std.proofs.lemmas.List.{append_assoc, append-nil, map-append, reverse-append, reverse-reverse}
 use Rattle.forest_model.specs.declared.documents.DocKey.{DocKey}
 use Rattle.forest_model.specs.declared.stored.Entry.{Entry}
 use Rattle.forest_model.specs.declared.stored.KeyEntry.{KeyEntry}
@@ -15,22 +15,45 @@ pub record Moving (start : List (DocKey × Entry)) (settled recent moved : List 
   pub rows : AreRows settled recent
   pub split : start ≡ all_pairs settled recent ++ reverse (pairs moved)
 
-pub moving_first : (settled recent moved : List (Box KeyEntry)) → AreRows settled recent → moved ≡ [] → Moving (all_pairs settled recent) settled recent moved
-moving_first settled recent moved rows none = record {
-  rows = rows;
-  split = sym (append-nil (all_pairs settled recent)) ∙ ap (λ rs. all_pairs settled recent ++ reverse (pairs rs)) (sym none);
-}
+-- pairs of rows turned round
+pairs_reverse : (rs : List (Box KeyEntry)) → pairs (reverse rs) ≡ reverse (pairs rs)
+pairs_reverse [] = refl
+pairs_reverse (r ∷ rs) =
+    ap pairs (reverse-append (r ∷ []) rs)
+    ∙ map-append pair_of (reverse rs) (r ∷ [])
+    ∙ ap (λ es. es ++ pair_of r ∷ []) (pairs_reverse rs)
+    ∙ sym (reverse-append (pair_of r ∷ []) (pairs rs))
 
-pub moving_on : (start : List (DocKey × Entry)) (settled recent moved left left_recent more : List (Box KeyEntry)) (r : Box KeyEntry) → Moving start settled recent moved → AreRows left left_recent
-    → all_pairs settled recent ≡ all_pairs left left_recent ++ pair_of r ∷ [] → more ≡ moved ++ r ∷ [] → Moving start left left_recent more
-moving_on start settled recent moved left left_recent more r moving rows last is = record {
+-- what was moved, turned round
+pub turned_pairs : (moved turned : List (Box KeyEntry)) → turned ≡ reverse moved → pairs turned ≡ reverse (pairs moved)
+turned_pairs moved turned is = ap pairs is ∙ pairs_reverse moved
+
+turned_more : (moved behind : List (Box KeyEntry)) → reverse (pairs (moved ++ reverse behind)) ≡ pairs behind ++ reverse (pairs moved)
+turned_more moved behind =
+    ap reverse (map-append pair_of moved (reverse behind))
+    ∙ reverse-append (pairs moved) (pairs (reverse behind))
+    ∙ ap (λ es. reverse es ++ reverse (pairs moved)) (pairs_reverse behind)
+    ∙ ap (λ es. es ++ reverse (pairs moved)) (reverse-reverse (pairs behind))
+
+turned_behind : (moved behind : List (Box KeyEntry)) (last : Box KeyEntry) → reverse (pairs ((moved ++ reverse behind) ++ last ∷ [])) ≡ pairs (last ∷ behind) ++ reverse (pairs moved)
+turned_behind moved behind last =
+    ap reverse (map-append pair_of (moved ++ reverse behind) (last ∷ []))
+    ∙ reverse-append (pairs (moved ++ reverse behind)) (pair_of last ∷ [])
+    ∙ ap (λ es. pair_of last ∷ es) (turned_more moved behind)
+
+pub moving_on : (start : List (DocKey × Entry)) (settled recent moved left left_recent behind : List (Box KeyEntry)) (last : Box KeyEntry) → Moving start settled recent moved → AreRows left left_recent
+    → all_pairs settled recent ≡ all_pairs left left_recent ++ pairs (last ∷ behind) → Moving start left left_recent ((moved ++ reverse behind) ++ last ∷ [])
+moving_on start settled recent moved left left_recent behind last moving rows most = record {
   rows = rows;
   split =
       moving.split
-      ∙ ap (λ es. es ++ reverse (pairs moved)) last
-      ∙ append_assoc (all_pairs left left_recent) (pair_of r ∷ []) (reverse (pairs moved))
-      ∙ ap (λ es. all_pairs left left_recent ++ es) (sym (reverse-append (pairs moved) (pair_of r ∷ [])) ∙ ap reverse (sym (map-append pair_of moved (r ∷ []))) ∙ ap (λ rs. reverse (pairs rs)) (sym is));
+      ∙ ap (λ es. es ++ reverse (pairs moved)) most
+      ∙ append_assoc (all_pairs left left_recent) (pairs (last ∷ behind)) (reverse (pairs moved))
+      ∙ ap (λ es. all_pairs left left_recent ++ es) (sym (turned_behind moved behind last));
 }
+
+pub moving_end : (start : List (DocKey × Entry)) (settled recent moved : List (Box KeyEntry)) → Moving start settled recent moved → recent ≡ [] → start ≡ reverse (pairs (moved ++ reverse settled))
+moving_end start settled recent moved moving none = moving.split ∙ ap (λ rs. all_pairs settled rs ++ reverse (pairs moved)) none ∙ sym (turned_more moved settled)
 
 pub no_rows : (rs : List (Box KeyEntry)) → length rs ≡ 0 → rs ≡ []
 no_rows [] h = refl
@@ -40,20 +63,44 @@ pub none_left : (settled recent : List (Box KeyEntry)) → length settled + leng
 none_left settled recent none =
     ap (λ rs. all_pairs rs recent) (no_rows settled (omega (arith, none))) ∙ ap (all_pairs []) (no_rows recent (omega (arith, none)))
 
-pub moving_end : (start : List (DocKey × Entry)) (settled recent moved : List (Box KeyEntry)) → Moving start settled recent moved → length settled + length recent ≡ 0 → start ≡ reverse (pairs moved)
-moving_end start settled recent moved moving none = moving.split ∙ ap (λ es. es ++ reverse (pairs moved)) (none_left settled recent none)
+-- ---- the rows from a place on, moved one by one
 
--- what was moved, turned round
-pub turned_pairs : (moved turned : List (Box KeyEntry)) → turned ≡ reverse moved → pairs turned ≡ reverse (pairs moved)
-turned_pairs moved turned is = ap pairs is ∙ each moved
-  where
-    each : (rs : List (Box KeyEntry)) → pairs (reverse rs) ≡ reverse (pairs rs)
-    each [] = refl
-    each (r ∷ rs) =
-        ap pairs (reverse-append (r ∷ []) rs)
-        ∙ map-append pair_of (reverse rs) (r ∷ [])
-        ∙ ap (λ es. es ++ pair_of r ∷ []) (each rs)
-        ∙ sym (reverse-append (pair_of r ∷ []) (pairs rs))
+module _ {A : Type 0} where
+  front_taken : (k : ℕ) (xs front : List A) (r : A) → take (suc k) xs ≡ front ++ r ∷ [] → length front ≡ k → front ≡ take k xs
+  front_taken k [] [] r is len = cc
+  front_taken k [] (f ∷ front) r is len = cc
+  front_taken zero (x ∷ xs) [] r is len = refl
+  front_taken zero (x ∷ xs) (f ∷ front) r is len = absurd (omega (arith, len))
+  front_taken (suc k) (x ∷ xs) [] r is len = absurd (omega (arith, len))
+  front_taken (suc k) (x ∷ xs) (f ∷ front) r is len =
+      let rest : take (suc k) xs ≡ front ++ r ∷ [] = cc in
+      let same : x ≡ f = cc in
+      ap (λ ys. f ∷ ys) (front_taken k xs front r rest (omega (arith, len))) ∙ ap (λ y. y ∷ take k xs) (sym same)
+
+  last_dropped : (k : ℕ) (xs front : List A) (r : A) → take (suc k) xs ≡ front ++ r ∷ [] → length front ≡ k → drop k xs ≡ r ∷ drop (suc k) xs
+  last_dropped k [] [] r is len = cc
+  last_dropped k [] (f ∷ front) r is len = cc
+  last_dropped zero (x ∷ xs) [] r is len = let same : x ≡ r = cc in ap (λ y. y ∷ xs) same
+  last_dropped zero (x ∷ xs) (f ∷ front) r is len = absurd (omega (arith, len))
+  last_dropped (suc k) (x ∷ xs) [] r is len = absurd (omega (arith, len))
+  last_dropped (suc k) (x ∷ xs) (f ∷ front) r is len =
+      let rest : take (suc k) xs ≡ front ++ r ∷ [] = cc in
+      last_dropped k xs front r rest (omega (arith, len))
+
+  pub kept_more : (k m : ℕ) (start items front : List A) (r : A) → items ≡ take m start → items ≡ front ++ r ∷ [] → m ≡ k + 1 → length front ≡ k → front ≡ take k start
+  kept_more k m start items front r kept is m_is len =
+      let more : suc k ≡ m = omega (arith, m_is) in
+      front_taken k start front r (ap (λ n. take n start) more ∙ sym kept ∙ is) len
+
+  pub moved_more : (k m : ℕ) (start items front before moved more : List A) (r : A) → items ≡ take m start → items ≡ front ++ r ∷ [] → m ≡ k + 1 → length front ≡ k
+      → moved ≡ before ++ reverse (drop m start) → more ≡ moved ++ r ∷ [] → more ≡ before ++ reverse (drop k start)
+  moved_more k m start items front before moved more r kept is m_is len moved_is more_is =
+      let next : suc k ≡ m = omega (arith, m_is) in
+      let rest : drop k start ≡ r ∷ drop m start = last_dropped k start front r (ap (λ n. take n start) next ∙ sym kept ∙ is) len ∙ ap (λ n. r ∷ drop n start) next in
+      more_is
+      ∙ ap (λ xs. xs ++ r ∷ []) moved_is
+      ∙ append_assoc before (reverse (drop m start)) (r ∷ [])
+      ∙ ap (λ xs. before ++ xs) (sym (reverse-append (r ∷ []) (drop m start)) ∙ ap reverse (sym rest))
 
 -- from the first on: those that were copied, and then those that are left
 pub record Copying (start : List (DocKey × Entry)) (settled recent : List (Box KeyEntry)) (copies : List KeyEntry) : Type 0 where

@@ -1,5 +1,5 @@
 -- Where a search in a part of a list finds a key, outside of which it isn't.
-use Rattle.std.proofs.Common.{◌≡◌, ℕ, zero, suc, ◌<◌, ◌≤◌, ◌+◌, ◌-◌, true, T, List, [], ◌∷◌, length, take, drop, map, refl, sym, ap, ◌∙◌, subst, arith, get_or, inl, inr}
+use Rattle.std.proofs.Common.{◌≡◌, ℕ, zero, suc, ◌<◌, ◌≤◌, ◌+◌, ◌-◌, true, T, List, [], ◌∷◌, length, take, drop, map, refl, sym, ap, ◌∙◌, arith, get_or, inl, inr}
 use Rattle.std.specs.Cmp.{IsTotalOrder}
 use Rattle.std.specs.FinMap as finite
 use Rattle.std.specs.FinMap.Entries.{below_all}
@@ -34,7 +34,7 @@ module _ {K X A : Type 0} (R : K → K → Ordering) (f : A → K × X) where
   below_take x (a ∷ xs) zero h = tt
   below_take x (a ∷ xs) (suc n) h = both _ _ (first _ _ h) (below_take x xs n (second _ _ h))
 
-  sorted_take : (xs : List A) (n : ℕ) → T (finite.is_sorted R (map f xs)) → T (finite.is_sorted R (map f (take n xs)))
+  pub sorted_take : (xs : List A) (n : ℕ) → T (finite.is_sorted R (map f xs)) → T (finite.is_sorted R (map f (take n xs)))
   sorted_take [] zero h = tt
   sorted_take [] (suc n) h = tt
   sorted_take (a ∷ xs) zero h = tt

@@ -1,5 +1,5 @@
 -- What two lists of rows hold together.
-use Rattle.std.proofs.Common.{◌≡◌, ℕ, ◌+◌, min, Bool, true, T, List, [], ◌∷◌, ◌++◌, length, map, filter, sum_by, refl, sym, ap, ◌∙◌, subst, arith}
+use Rattle.std.proofs.Common.{◌≡◌, ℕ, ◌+◌, min, Bool, true, T, List, [], ◌∷◌, length, map, filter, sum_by, refl, sym, ap, ◌∙◌, subst, arith}
 use Rattle.std.specs.Prelude.{Option, Some, None, is_some}
 use Rattle.std.specs.Option.{option_or}
 use Rattle.std.proofs.lemmas.List.{length-map}
@@ -15,7 +15,6 @@ use Rattle.wal_index.specs.Merged.{merged, AreApart, AreRows, all_pairs}
 use Rattle.wal_index.specs.Rows.{pair_of, pairs, held}
 use Rattle.wal_index.proofs.Maps.{put_sorted, without_sorted}
 use Rattle.wal_index.proofs.Merged.{merged_sorted, merged_sum, find_merged, put_first, put_second, filter_merged, merged_length, apart_turned, apart_none, apart_put, apart_where}
-use Rattle.wal_index.proofs.MergedRows.{without_last, apart_without_last}
 use Rattle.wal_index.proofs.Orders.{keys_total, exact_keys}
 
 pub rows_sorted : (settled recent : List (Box KeyEntry)) → AreRows settled recent → T (finite.is_sorted key_cmp (all_pairs settled recent))
@@ -49,22 +48,6 @@ pub older_recent : (settled recent : List (Box KeyEntry)) (q : DocKey) → finit
 older_recent settled recent q none =
     let found = finite.find key_cmp q (pairs recent) in
     sym (find_merged keys_total q (pairs settled) (pairs recent) ∙ ap (option_or found) none ∙ elim found as (λ (o : Option Entry). option_or o None ≡ o) [ Some entry ↦ refl | None ↦ refl ])
-
--- ---- without a row
-
-pub without_settled : (settled front recent : List (Box KeyEntry)) (r : Box KeyEntry) → settled ≡ front ++ r ∷ [] → AreRows settled recent → AreRows front recent
-without_settled settled front recent r is rows = record {
-  first_sorted = without_last keys_total pair_of settled front r is rows.first_sorted;
-  second_sorted = rows.second_sorted;
-  apart = apart_turned keys_total (pairs recent) (pairs front) (apart_without_last keys_total pair_of (pairs recent) settled front r is (apart_turned keys_total (pairs settled) (pairs recent) rows.apart));
-}
-
-pub without_recent : (settled recent front : List (Box KeyEntry)) (r : Box KeyEntry) → recent ≡ front ++ r ∷ [] → AreRows settled recent → AreRows settled front
-without_recent settled recent front r is rows = record {
-  first_sorted = rows.first_sorted;
-  second_sorted = without_last keys_total pair_of recent front r is rows.second_sorted;
-  apart = apart_without_last keys_total pair_of (pairs settled) recent front r is rows.apart;
-}
 
 -- ---- a row that is put
 

@@ -1,5 +1,5 @@
 -- Two lists of entries in the order of their keys, seen as one.
-use Rattle.std.specs.Prelude.{◌≡◌, Bool, true, List, [], ◌∷◌, Option, Some, None, is_some, if◌then◌else◌}
+use Rattle.std.specs.Prelude.{◌≡◌, ℕ, ◌≤◌, Bool, true, List, [], ◌∷◌, ◌++◌, length, Option, Some, None, is_some, if◌then◌else◌}
 use Rattle.std.specs.Global.{Box}
 use Rattle.std.specs.Ordering.{is_lt, is_gt}
 use Rattle.std.specs.FinMap as finite
@@ -8,7 +8,8 @@ use Rattle.forest_model.specs.Key.{key_cmp}
 use Rattle.forest_model.specs.declared.documents.DocKey.{DocKey}
 use Rattle.forest_model.specs.declared.stored.Entry.{Entry}
 use Rattle.forest_model.specs.declared.stored.KeyEntry.{KeyEntry}
-use Rattle.wal_index.specs.Rows.{pairs, AreSorted}
+use Rattle.wal_index.specs.Places.{IsGap}
+use Rattle.wal_index.specs.Rows.{key_of, pairs, AreSorted}
 
 -- the first entries, with the others put among them
 abbrev pub merged : {K X : Type 0} → (K → K → Ordering) → List (K × X) → List (K × X) → List (K × X)
@@ -34,3 +35,8 @@ pub record AreRows (settled recent : List (Box KeyEntry)) : Type 0 where
   pub first_sorted : AreSorted settled
   pub second_sorted : AreSorted recent
   pub apart : AreApart key_cmp (pairs settled) (pairs recent)
+
+-- the first n settled rows have lower keys than the last recent one, and the others have higher ones
+pub record IsBelowLast (settled recent : List (Box KeyEntry)) (n : ℕ) : Type 0 where
+  pub within : n ≤ length settled
+  pub parted : (front : List (Box KeyEntry)) (last : Box KeyEntry) → recent ≡ front ++ last ∷ [] → IsGap key_cmp key_of (key_of last) settled n

@@ -24,8 +24,8 @@ fn heads_are_merged_in_the_order_of_keys(rt: HostRuntime) -> Result<(), Fail> {
     let mut recent = Vec::new(alloc);
     recent.push(row(alloc, 0, b"")?)?;
     recent.push(row(alloc, 0, b"ab")?)?;
-    recent.push(row(alloc, 1, b"abcdefgh")?)?;
-    recent.push(row(alloc, 1, b"abcdefghi")?)?;
+    recent.push(row(alloc, 1, b"abcdefghijkl")?)?;
+    recent.push(row(alloc, 1, b"abcdefghijklm")?)?;
     let merged = merged_heads(alloc, &settled, recent.as_slice())?;
     let all = [
         head_of(0, b""),
@@ -33,8 +33,8 @@ fn heads_are_merged_in_the_order_of_keys(rt: HostRuntime) -> Result<(), Fail> {
         head_of(0, b"ab"),
         head_of(0, b"b"),
         head_of(1, b""),
-        head_of(1, b"abcdefgh"),
-        head_of(1, b"abcdefgh"),
+        head_of(1, b"abcdefghijkl"),
+        head_of(1, b"abcdefghijkl"),
     ];
     assert!(rt; merged.as_slice() == all.as_slice());
     Ok(())

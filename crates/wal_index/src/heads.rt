@@ -12,38 +12,39 @@ use crate::by_key::{RowList, compare, place};
 use forest_model::{Entry, KeyEntry, Refusal};
 use std::alloc::Global;
 
-/// The store of a row and the first 8 bytes of its key, the first as the highest; bytes that aren't there count as 0.
-#[derive(Clone, Copy, PartialEq)]
-pub(crate) struct Head {
-    store: u64,
-    first: u64,
-}
+/// The store of a row, in 4 bytes and capped there, and the first 12 bytes of its key, the first as the highest; bytes that
+/// aren't there count as 0.
+pub(crate) type Head = u128;
 
 pub(crate) fn head_of(store: u64, key: &[u8]) -> Head {
-    let mut bytes = [0; 8];
-    let count = key.len().min(8);
-    bytes[..count].copy_from_slice(&key[..count]);
-    Head {
-        store,
-        first: u64::from_be_bytes(bytes),
-    }
-}
-
-fn is_below(a: Head, b: Head) -> bool {
-    a.store < b.store || (a.store == b.store && a.first < b.first)
+    let mut bytes = [0; 16];
+    let count = key.len().min(12);
+    bytes[..4].copy_from_slice(&(store.min(0xffff_ffff) as u32).to_be_bytes());
+    bytes[4..4 + count].copy_from_slice(&key[..count]);
+    u128::from_be_bytes(bytes)
 }
 
 // How many heads stand before a head, those that are the same among them or not.
 fn border(heads: &[Head], head: Head, with: bool) -> usize
     ensures { result ≤ length heads.now }
 {
-    heads.partition_point(|other| {
-        if with {
-            !is_below(head, *other)
-        } else {
-            is_below(*other, head)
+    heads.partition_point(|other| *other < head || (with && *other == head))
+}
+
+// So many heads are looked at one after the other before a search for the end of those that are the same.
+const FEW: usize = 4;
+
+// How many of the first heads are the same as a head, of which none is above the next.
+fn same(heads: &[Head], head: Head) -> usize
+    ensures { result ≤ length heads.now }
+{
+    let few = heads.len().min(FEW);
+    for at in 0..few {
+        if heads[at] != head {
+            return at;
         }
-    })
+    }
+    border(heads, head, true)
 }
 
 // Whether all rows before a place have lower keys, as the last of them tells.
@@ -98,9 +99,10 @@ pub(crate) fn place_by(
     ensures gap { IfErr result (λ i. IsGap key_cmp key_of (key_at store key.now) rows.now i) }
 {
     let head = head_of(store, key);
-    let low = border(heads, head, false).min(rows.len());
-    let high = border(heads, head, true).min(rows.len());
-    if low <= high && is_behind(rows, low, store, key) && is_before(rows, high, store, key) {
+    let before = border(heads, head, false);
+    let high = (before + same(&heads[before..], head)).min(rows.len());
+    let low = before.min(high);
+    if is_behind(rows, low, store, key) && is_before(rows, high, store, key) {
         place_in(rows, low, high, store, key)
     } else {
         place(rows, store, key)

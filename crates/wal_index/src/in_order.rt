@@ -1,8 +1,12 @@
-ghost use Rattle.std.specs.Prelude.{◌≡◌, ◌<◌, ◌+◌, ◌∷◌, length};
+ghost use Rattle.std.specs.Prelude.{◌≡◌, ◌<◌, ◌+◌, ◌∷◌, length, slice_index_or};
+ghost use Rattle.std.specs.Global.{Box};
+ghost use Rattle.std.specs.Ordering.{is_lt};
+ghost use Rattle.forest_model.specs.Key.{key_cmp};
+ghost use Rattle.forest_model.specs.declared.stored.KeyEntry.{KeyEntry};
 ghost use Rattle.wal_index.specs.Merged.{AreRows, all_pairs};
-ghost use Rattle.wal_index.specs.Rows.{pair_of};
+ghost use Rattle.wal_index.specs.Rows.{key_of, pair_of};
 
-use crate::merge::is_lower;
+use crate::by_key::compare;
 use forest_model::KeyEntry;
 
 /// The rows of both lists that are left, to be taken in order.
@@ -33,6 +37,22 @@ impl<'a> InOrder<'a> {
             take(&mut self.recent)
         }
     }
+}
+
+// Whether a settled row has a lower key than a recent one.
+fn is_lower(
+    settled: &[Box<KeyEntry>],
+    at: usize,
+    recent: &[Box<KeyEntry>],
+    recent_at: usize,
+) -> bool
+    requires within { at < length settled.now }
+    requires recent_within { recent_at < length recent.now }
+    ensures { (d : Box KeyEntry) → result ≡ is_lt (key_cmp (key_of (slice_index_or settled.now at d)) (key_of (slice_index_or recent.now recent_at d))) }
+{
+    let row = &settled[at];
+    let other = &recent[recent_at];
+    compare(row, other.store, other.key.as_slice()).is_lt()
 }
 
 // Takes the first of these rows.

@@ -19,7 +19,7 @@ use std::alloc::Global;
 // The recent rows are settled once they are more than these, and than this share of the settled ones.
 const FEW: usize = 1_024;
 
-const SHARE: usize = 16;
+const SHARE: usize = 32;
 
 /// Rows of keys that are apart, in two lists: new keys go into the short one, which is merged into the other at times, so
 /// that a put doesn't move all rows. The heads are those of the settled rows, or none.
@@ -138,7 +138,12 @@ impl Rows {
         let recent = self.recent.len();
         if recent > FEW && recent > self.settled.len() / SHARE {
             let heads = self.heads_with_recent(alloc)?;
-            settle(alloc, &mut self.settled, &mut self.recent)?;
+            settle(
+                alloc,
+                &mut self.settled,
+                &mut self.recent,
+                self.heads.as_slice(),
+            )?;
             self.heads = heads;
         }
         self.recent.reserve(spare)?;

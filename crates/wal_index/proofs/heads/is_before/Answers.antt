@@ -1,5 +1,4 @@
 use Rattle.std.proofs.Common.{arith, sym, ap, ◌∙◌}
-use Rattle.std.specs.Ordering.{is_gt}
 use Rattle.forest_model.specs.Key.{key_cmp}
 use Rattle.forest_model.specs.declared.stored.KeyEntry.{KeyEntry}
 use Rattle.wal_index.specs.Index.{key_at}
