@@ -1,4 +1,4 @@
-ghost use Rattle.std.specs.Prelude.{◌≡◌, ◌≢◌, ◌⊎◌, ◌≤◌, ◌<◌, ◌+◌, ◌^◌, false, true, [], length, map, IsTrue, is_some, Err, IfOk, OnOk, OnErr};
+ghost use Rattle.std.specs.Prelude.{◌≡◌, ◌≢◌, ◌⊎◌, ◌≤◌, ◌<◌, ◌+◌, ◌^◌, false, true, [], length, IsTrue, is_some, Err, IfOk, OnOk, OnErr};
 ghost use Rattle.std.specs.FinMap as finite;
 ghost use Rattle.std.specs.List.{list_any};
 ghost use Rattle.doc_stream.specs.Records.{is_record};
@@ -6,12 +6,12 @@ ghost use Rattle.forest_model.specs.Documents.{key_at};
 ghost use Rattle.forest_model.specs.Limits as limits;
 ghost use Rattle.forest_model.specs.declared.refusal.Refusal.TheVariants as Refusal;
 ghost use Rattle.kvs_names.specs.Table.{row_with_id, counted};
-ghost use Rattle.file_documents.specs.Batching.{item_key, item_record};
-ghost use Rattle.file_documents.specs.BatchPuts.{PutsAll, IsPut, documents_known, entry_put, known_after, known_from, live_known, room_of};
+ghost use Rattle.file_documents.specs.Batching.{item_record};
+ghost use Rattle.file_documents.specs.BatchPuts.{PutsAll, IsPut, documents_known, entry_put, known_after, known_from, live_known};
 ghost use Rattle.file_parts.specs.Held.{held};
 
 use crate::deleting::len_of_living;
-use crate::items::{item_len, items_len, key_of};
+use crate::items::{item_len, items_len};
 use crate::setting::{documents_with, live_with};
 use block_host::{Block, Host};
 use doc_stream::Tail;
@@ -223,20 +223,17 @@ fn enter_one(
     wal: &mut WalIndex,
     live: &mut u64,
     store: u64,
-    key: &[u8],
     pending: Pending,
     documents: u64,
 ) -> u64
-    requires key { pending.room ≡ key.now }
     requires room { 1 ≤ wal.old.room }
     ensures entries { wal.new.entries ≡ finite.insert wal.old.entries (key_at store pending.room) pending.entry }
     ensures room { wal.new.room + 1 ≡ wal.old.room }
     ensures live { live.new ≡ live_known (finite.get wal.old.entries (key_at store pending.room)) pending.entry live.old }
     ensures documents { result ≡ documents_known (finite.get wal.old.entries (key_at store pending.room)) pending.entry documents }
 {
-    let older = wal.get(store, key);
     let Pending { room, entry } = pending;
-    wal.put(store, room, entry);
+    let older = wal.put(store, room, entry);
     *live = live_now(older, entry, *live);
     documents_now(older, entry, documents)
 }
@@ -246,21 +243,15 @@ fn enter_each(
     wal: &mut WalIndex,
     live: &mut u64,
     store: u64,
-    items: &[Item],
     pending: Vec<Pending>,
     documents: u64,
 ) -> u64
-    requires rooms { map room_of pending.items ≡ map item_key items.now }
-    requires room { length items.now ≤ wal.old.room }
+    requires { length pending.items ≤ wal.old.room }
     ensures known { known_from wal.new.entries result live.new ≡ known_after store (known_from wal.old.entries documents live.old) pending.items }
 {
-    let mut waiting = pending.into_iter();
     let mut count = documents;
-    for item in items {
-        // One waits for each item.
-        if let Some(next) = waiting.next() {
-            count = enter_one(wal, live, store, key_of(item), next, count);
-        }
+    for next in pending {
+        count = enter_one(wal, live, store, next, count);
     }
     count
 }
@@ -269,14 +260,12 @@ fn enter_each(
 pub(crate) fn enter_batch<H: Host>(
     parts: &mut Parts<H>,
     at: Drawn,
-    items: &[Item],
     tail: Tail,
     pending: Vec<Pending>,
     documents: u64,
 )
     requires there { is_some (row_with_id parts.old.names.rows at.store) ≡ true }
-    requires rooms { map room_of pending.items ≡ map item_key items.now }
-    requires room { length items.now ≤ parts.old.wal.room }
+    requires room { length pending.items ≤ parts.old.wal.room }
     requires place { parts.old.place + 1 < 2 ^ 62 }
     ensures entries { parts.new.wal.entries ≡ (known_after at.store (known_from parts.old.wal.entries documents parts.old.live) pending.items).entries }
     ensures rest { let known = known_after at.store (known_from parts.old.wal.entries documents parts.old.live) pending.items in
@@ -298,7 +287,6 @@ pub(crate) fn enter_batch<H: Host>(
         &mut parts.wal,
         &mut parts.live,
         at.store,
-        items,
         pending,
         documents,
     );

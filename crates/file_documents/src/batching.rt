@@ -126,6 +126,6 @@ fn batch_free<H: Host>(
         store: at.store,
         seq: numbers.0 + items.len() as u64,
     };
-    enter_batch(parts, drawn, items, tail, pending, numbers.1);
+    enter_batch(parts, drawn, tail, pending, numbers.1);
     Ok(drawn.seq)
 }

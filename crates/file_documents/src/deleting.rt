@@ -122,7 +122,7 @@ fn delete_free<H: Host>(
         live: false,
         len,
     };
-    enter_deletion(parts, at.store, key, room, entry, numbers.1);
+    enter_deletion(parts, at.store, room, entry, numbers.1);
     Ok(seq)
 }
 
@@ -130,22 +130,20 @@ fn delete_free<H: Host>(
 fn enter_deletion<H: Host>(
     parts: &mut Parts<H>,
     store: u64,
-    key: &[u8],
     room: Room,
     entry: Entry,
     documents: u64,
 )
     requires there { is_some (row_with_id parts.old.names.rows store) ≡ true }
-    requires key { room ≡ key.now }
     requires room { 1 ≤ parts.old.wal.room }
     requires place { parts.old.place + 1 < 2 ^ 62 }
-    ensures entries { parts.new.wal.entries ≡ finite.insert parts.old.wal.entries (key_at store key.now) entry }
+    ensures entries { parts.new.wal.entries ≡ finite.insert parts.old.wal.entries (key_at store room) entry }
     ensures rest { held parts.new ≡ record (held parts.old) {
       blocks = parts.old.tail.number;
       names = counted parts.old.names store entry.seq (documents - 1);
       wal = parts.new.wal;
       loose = length parts.old.tail.bytes;
-      live = parts.old.live - live_len (finite.get parts.old.wal.entries (key_at store key.now));
+      live = parts.old.live - live_len (finite.get parts.old.wal.entries (key_at store room));
       place = parts.old.place + 1;
     } }
     ensures host { parts.new.host ≡ parts.old.host }
@@ -153,12 +151,11 @@ fn enter_deletion<H: Host>(
     ensures opened { parts.new.opened ≡ parts.old.opened }
     ensures damaged { parts.new.damaged ≡ parts.old.damaged }
 {
-    let gone = len_of_living(parts.wal.get(store, key));
+    let gone = len_of_living(parts.wal.put(store, room, entry));
     parts.live = parts.live.saturating_sub(gone);
     parts
         .names
         .count(store, entry.seq, documents.saturating_sub(1));
-    parts.wal.put(store, room, entry);
     advance(parts);
 }
 

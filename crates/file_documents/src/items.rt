@@ -11,7 +11,7 @@ use forest_model::Item;
 use wal_index::WalIndex;
 
 // The key that an item sets or deletes.
-pub(crate) fn key_of(item: &Item) -> &[u8]
+fn key_of(item: &Item) -> &[u8]
     ensures { result.now ≡ item_key item.now }
 {
     match item {

@@ -137,30 +137,22 @@ fn set_free<H: Host>(
         live: true,
         len,
     };
-    enter(parts, at.store, key, room, entry, numbers.1);
+    enter(parts, at.store, room, entry, numbers.1);
     Ok(seq)
 }
 
 // Makes a document whose record was put known to the index, the table and the counts.
-fn enter<H: Host>(
-    parts: &mut Parts<H>,
-    store: u64,
-    key: &[u8],
-    room: Room,
-    entry: Entry,
-    documents: u64,
-)
+fn enter<H: Host>(parts: &mut Parts<H>, store: u64, room: Room, entry: Entry, documents: u64)
     requires there { is_some (row_with_id parts.old.names.rows store) ≡ true }
-    requires key { room ≡ key.now }
     requires room { 1 ≤ parts.old.wal.room }
     requires place { parts.old.place + 1 < 2 ^ 62 }
-    ensures entries { parts.new.wal.entries ≡ finite.insert parts.old.wal.entries (key_at store key.now) entry }
+    ensures entries { parts.new.wal.entries ≡ finite.insert parts.old.wal.entries (key_at store room) entry }
     ensures rest { held parts.new ≡ record (held parts.old) {
       blocks = parts.old.tail.number;
-      names = counted parts.old.names store entry.seq (documents_after (finite.get parts.old.wal.entries (key_at store key.now)) documents);
+      names = counted parts.old.names store entry.seq (documents_after (finite.get parts.old.wal.entries (key_at store room)) documents);
       wal = parts.new.wal;
       loose = length parts.old.tail.bytes;
-      live = live_after (finite.get parts.old.wal.entries (key_at store key.now)) parts.old.live entry.len;
+      live = live_after (finite.get parts.old.wal.entries (key_at store room)) parts.old.live entry.len;
       place = parts.old.place + 1;
     } }
     ensures host { parts.new.host ≡ parts.old.host }
@@ -168,12 +160,11 @@ fn enter<H: Host>(
     ensures opened { parts.new.opened ≡ parts.old.opened }
     ensures damaged { parts.new.damaged ≡ parts.old.damaged }
 {
-    let older = parts.wal.get(store, key);
+    let older = parts.wal.put(store, room, entry);
     parts.live = live_with(older, parts.live, entry.len);
     parts
         .names
         .count(store, entry.seq, documents_with(older, documents));
-    parts.wal.put(store, room, entry);
     advance(parts);
 }
 

@@ -21,13 +21,13 @@ fn remove_older(numbers: &mut Numbers, older: Option<Entry>, store: u64, key: &[
     }
 }
 
-// Puts a key's newer entry, and its number in the place of the older one's. There is capacity for both.
+// Puts a key's newer entry, and its number in the place of the older one's, which it answers. There is capacity for both.
 pub(crate) fn put_both(
     rows: &mut Rows,
     numbers: &mut Numbers,
     row: Box<KeyEntry>,
     number: Box<Numbered>,
-)
+) -> Option<Entry>
     requires sorted { AreRows rows.old.settled.items rows.old.recent.items }
     requires numbers_sorted { AreNumbersSorted numbers.old.items }
     requires agree { Agree (all_pairs rows.old.settled.items rows.old.recent.items) (marks numbers.old.items) }
@@ -42,8 +42,10 @@ pub(crate) fn put_both(
     ensures numbers_capacity { vec_capacity numbers.old ≤ vec_capacity numbers.new }
     ensures numbers_len { vec_len numbers.new ≤ vec_len numbers.old + 1 }
     ensures agree { Agree (all_pairs rows.new.settled.items rows.new.recent.items) (marks numbers.new.items) }
+    ensures older { result ≡ finite.find key_cmp (pair_of row).0 (all_pairs rows.old.settled.items rows.old.recent.items) }
 {
     let older = rows.put(row);
     remove_older(numbers, older, number.store, number.key.as_slice());
     put_number(numbers, number);
+    older
 }

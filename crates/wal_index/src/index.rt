@@ -79,14 +79,16 @@ impl WalIndex {
         Ok(room)
     }
 
-    /// Puts a newer entry of the room's key. It takes no memory.
-    pub fn put(&mut self, store: u64, room: Room, entry: Entry)
+    /// Puts a newer entry of the room's key, and answers the one before, where there is one. It takes no memory.
+    pub fn put(&mut self, store: u64, room: Room, entry: Entry) -> Option<Entry>
         requires { 0 < self.old.room }
-        ensures { self.new ≡ with_entry self.old store room entry }
+        ensures put { self.new ≡ with_entry self.old store room entry }
+        ensures older { result ≡ entry_at self.old.entries store room }
     {
         let (row, number) = room.into_parts(store, entry);
-        put_both(&mut self.rows, &mut self.numbers, row, number);
+        let older = put_both(&mut self.rows, &mut self.numbers, row, number);
         self.room -= 1;
+        older
     }
 
     /// The newest entry of a key.

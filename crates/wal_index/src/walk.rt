@@ -92,7 +92,8 @@ impl Pair {
         *last
     }
 
-    fn put(&mut self, spot: Spot, live: bool, skipped: u64) -> Result<(), Refusal> {
+    // Puts an entry, and tells whether both have the same one before it.
+    fn same_put(&mut self, spot: Spot, live: bool, skipped: u64) -> Result<bool, Refusal> {
         let seq = self.new_number(spot.store, skipped);
         let entry = Entry {
             seq,
@@ -100,10 +101,9 @@ impl Pair {
             live,
             len: 32,
         };
-        self.map.insert(spot, entry)?;
+        let older = self.map.insert(spot, entry)?;
         let room = self.index.room(key_at(spot.key), 1)?;
-        self.index.put(spot.store, room, entry);
-        Ok(())
+        Ok(self.index.put(spot.store, room, entry) == older)
     }
 
     fn go(&mut self, store: u64) -> Result<(), Refusal> {
@@ -168,7 +168,11 @@ impl Pair {
             .saturating_sub(draws.below(20));
         match draws.below(32) {
             0 => self.go(spot.store)?,
-            1..=11 => self.put(spot, draws.flip(), draws.below(3))?,
+            1..=11 => {
+                if !self.same_put(spot, draws.flip(), draws.below(3))? {
+                    return Ok(false);
+                }
+            }
             12..=14 => return Ok(self.same_get(spot)),
             15..=17 => return Ok(self.same_by_seq(spot.store, seq)),
             18..=24 => return Ok(self.same_next(spot, with, up)),

@@ -23,7 +23,7 @@ returns-clause-gives g c =
           (moment_of (g.H.Host.disk c.args.parts.now.host) (g.H.View.View.content c.args.parts.now.view) (g.H.Host.faults c.args.parts.now.host) (g.H.View.View.faults c.args.parts.now.view) c.args.parts.now)
           (moment_of (g.H.Host.disk c.append.new.parts.host) (g.H.View.View.content c.append.new.parts.view) (g.H.Host.faults c.append.new.parts.host) (g.H.View.View.faults c.append.new.parts.view) c.append.new.parts)
           (moment_of (g.H.Host.disk c.enter.new.parts.host) (g.H.View.View.content c.enter.new.parts.view) (g.H.Host.faults c.enter.new.parts.host) (g.H.View.View.faults c.enter.new.parts.view) c.enter.new.parts)
-          c.room.new.self c.in_ok-rec.rec e c.args.numbers.1 c.room.ensures.entries rec_is (search rules) e_is c.requires.documents
+          c.room.new.self c.in_ok-room.room c.in_ok-rec.rec e c.args.numbers.1 c.room.ensures.entries c.in_ok-room.ensures.key rec_is (search rules) e_is c.requires.documents
           c.in_ok-address.ensures.puts c.in_ok-address.ensures.rest (ap g.H.Host.disk c.enter.ensures.host) (ap g.H.View.View.content c.enter.ensures.view)
           c.enter.ensures.entries c.enter.ensures.rest,
     )
