@@ -6,7 +6,7 @@ use Rattle.forest_model.specs.declared.stored.Rec.{Rec}
 use Rattle.doc_stream.specs.Causes.{BreaksRecord, Reason}
 use Rattle.doc_stream.specs.OpenBlock.{OpenBlock}
 use Rattle.doc_stream.specs.Reading.{RecordAt, AreHeld, IsInside, from_offset}
-use Rattle.doc_stream.specs.Records.{record_bytes, is_record}
+use Rattle.forest_model.specs.Records.{record_bytes, is_record}
 use Rattle.doc_stream.specs.Runs.{Piece, Spreads}
 use Rattle.doc_stream.specs.Scans.{StartsFrom}
 use Rattle.doc_stream.specs.Steps.{Asked, Place, in_hand, Shows, Following, SameBelow, Stretch, Unsealed, TakesRecord, StopsRecord}

@@ -6,7 +6,7 @@ use Rattle.block_host.specs.Sealed.{IsSealed}
 use Rattle.block_host.specs.declared.block.Block.{Block}
 use Rattle.block_host.proofs.Back.{kind_back, used_back, payload_back}
 use Rattle.doc_stream.specs.OpenBlock.{OpenBlock}
-use Rattle.doc_stream.specs.Records.{is_empty}
+use Rattle.forest_model.specs.Records.{is_empty}
 use Rattle.doc_stream.specs.Runs.{Piece, RecordBlocks, Follows, left}
 use Rattle.doc_stream.specs.Reading.{Holds, AreHeld}
 use Rattle.doc_stream.specs.Steps.{Stands, Shows, Following, IsWithin, SameBelow}

@@ -2,7 +2,7 @@
 use Rattle.std.proofs.Common.{◌≡◌, ◌≢◌, ℕ, ◌+◌, List, [], ◌∷◌, ◌++◌, length, refl, sym, ◌∙◌, ap, subst, inl, inr, ⊎_elim, arith, length-append, append_assoc, append-nil}
 use Rattle.std.proofs.lemmas.List.Elements.{filter-append}
 use Rattle.forest_model.specs.declared.stored.Rec.{Rec}
-use Rattle.doc_stream.specs.Records.{record_bytes}
+use Rattle.forest_model.specs.Records.{record_bytes}
 use Rattle.doc_stream.specs.Runs.{Piece, Follows, Spreads, StartsAt, AreRecords, left}
 use Rattle.doc_stream.proofs.Filled.{left_some, left_empty}
 use Rattle.doc_stream.proofs.Fronts.{cons≢nil, cases_nil, nil_rest}

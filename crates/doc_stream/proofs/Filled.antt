@@ -7,7 +7,7 @@ use Rattle.block_host.specs.declared.block.Block.{Block}
 use Rattle.forest_model.specs.declared.stored.Rec.{Rec}
 use Rattle.doc_stream.specs.OpenBlock.{OpenBlock, AreFull, PutsBytes, address_of}
 use Rattle.doc_stream.specs.Reading.{Holds, AreHeld, RecordAt}
-use Rattle.doc_stream.specs.Records.{record_bytes, is_record, is_empty}
+use Rattle.forest_model.specs.Records.{record_bytes, is_record, is_empty}
 use Rattle.doc_stream.specs.Runs.{Piece, RecordBlocks, Spreads, left}
 use Rattle.doc_stream.proofs.Fronts.{cases_nil, nil_front, nil_rest, split_front, got_at}
 use Rattle.doc_stream.proofs.KeptAt.{HeldAt, Keeps, record_from, record_some}

@@ -8,7 +8,7 @@ use Rattle.block_host.specs.declared.block.Block.{Block}
 use Rattle.forest_model.specs.declared.stored.Rec.{Rec}
 use Rattle.doc_stream.specs.OpenBlock.{OpenBlock}
 use Rattle.doc_stream.specs.Reading.{Holds, AreHeld, IsInside, from_offset, RecordAt}
-use Rattle.doc_stream.specs.Records.{record_bytes, is_record}
+use Rattle.forest_model.specs.Records.{record_bytes, is_record}
 use Rattle.doc_stream.specs.Runs.{Piece, Follows, Spreads}
 use Rattle.doc_stream.proofs.Fronts.{cons≢nil, nil_front, got_still, got_at}
 

@@ -5,7 +5,7 @@ use Rattle.block_host.specs.declared.block.Block.{Block}
 use Rattle.forest_model.specs.declared.stored.Rec.{Rec}
 use Rattle.doc_stream.specs.Causes.{BreaksRecords}
 use Rattle.doc_stream.specs.OpenBlock.{OpenBlock, address_of}
-use Rattle.doc_stream.specs.Records.{record_bytes, is_record}
+use Rattle.forest_model.specs.Records.{record_bytes, is_record}
 use Rattle.doc_stream.specs.Runs.{Piece, RecordBlocks, Spreads, AreRecords, StartsAt, RecordsOf, left}
 use Rattle.doc_stream.specs.Scans.{RestOf, Scans, BreaksRest}
 use Rattle.doc_stream.specs.Steps.{Asked, Place, in_hand, Stands, Shows, Following, IsWithin, SameBelow, Stretch, Loads, Unsealed, TakesRecord, StopsRecord}

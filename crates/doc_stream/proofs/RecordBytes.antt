@@ -7,7 +7,7 @@ use Rattle.std.proofs.lemmas.Nat.{from_be_bytes-to_be_bytes_2, from_be_bytes-to_
 use Rattle.block_host.specs.declared.block.Block.{Block}
 use Rattle.forest_model.specs.declared.stored.Rec.{Rec}
 use Rattle.doc_stream.specs.Heads.{head_with, has_form}
-use Rattle.doc_stream.specs.Records.{record_bytes, head_bytes, is_record, has_numbers}
+use Rattle.forest_model.specs.Records.{record_bytes, head_bytes, is_record, has_numbers}
 use Rattle.doc_stream.specs.Runs.{Piece}
 use Rattle.doc_stream.specs.Steps.{Asked, Place, IsWithin, SameBelow, Stretch, Takes, Stops, TakesRecord, StopsRecord}
 use Rattle.doc_stream.proofs.Blocks.{same_less}

@@ -4,7 +4,7 @@ use Rattle.block_host.specs.Sealed.{IsSealed}
 use Rattle.block_host.specs.declared.block.Block.{Block}
 use Rattle.forest_model.specs.declared.stored.Rec.{Rec}
 use Rattle.doc_stream.specs.OpenBlock.{OpenBlock, PutsBytes, address_of}
-use Rattle.doc_stream.specs.Records.{record_bytes, is_record}
+use Rattle.forest_model.specs.Records.{record_bytes, is_record}
 use Rattle.doc_stream.specs.Runs.{Piece, RecordBlocks, Spreads, StartsAt, AreRecords, RecordsOf, left}
 use Rattle.doc_stream.specs.Writing.{Writing, Begins, Puts, Pads, Passes, AreOthers, Steps, Wrote}
 use Rattle.doc_stream.proofs.Extended.{piece, go_on, same_left, left_none}

@@ -1,7 +1,7 @@
 -- The numbers in a record's head.
 use Rattle.std.specs.Prelude.{ℕ, List, ◌∷◌, ◌++◌, [], Bool, ◌&&◌, ◌||◌, ◌==◌, nat_le}
 use Rattle.forest_model.specs.declared.stored.Rec.{Rec}
-use Rattle.doc_stream.specs.Records.{is_put, is_del, is_store_new, is_store_gone}
+use Rattle.forest_model.specs.Records.{is_put, is_del, is_store_new, is_store_gone}
 use Rattle.std.specs.Int.{w16, w32, w64, to_be_bytes}
 
 -- the bytes of a head with these numbers

@@ -1,4 +1,3 @@
-pub mod Records
 pub mod OpenBlock
 pub mod Bounds
 pub mod Runs

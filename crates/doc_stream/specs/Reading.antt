@@ -4,7 +4,7 @@ use Rattle.block_host.specs.Sealed.{IsSealed}
 use Rattle.block_host.specs.declared.block.Block.{Block}
 use Rattle.forest_model.specs.declared.stored.Rec.{Rec}
 use Rattle.doc_stream.specs.OpenBlock.{OpenBlock}
-use Rattle.doc_stream.specs.Records.{record_bytes, is_record}
+use Rattle.forest_model.specs.Records.{record_bytes, is_record}
 use Rattle.doc_stream.specs.Runs.{Piece, Spreads}
 
 -- the bytes of a record block: those of the open block, or of a sealed one of the file

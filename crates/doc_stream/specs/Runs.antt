@@ -4,7 +4,7 @@ use Rattle.block_host.specs.Sealed.{IsSealed}
 use Rattle.block_host.specs.declared.block.Block.{Block}
 use Rattle.forest_model.specs.declared.stored.Rec.{Rec}
 use Rattle.doc_stream.specs.OpenBlock.{address_of}
-use Rattle.doc_stream.specs.Records.{record_bytes, is_record, is_empty}
+use Rattle.forest_model.specs.Records.{record_bytes, is_record, is_empty}
 
 -- what is still to be read of a record block: its number, where its bytes begin, and these
 pub record Piece : Type 0 where

@@ -3,7 +3,7 @@ use Rattle.std.specs.Prelude.{◌≡◌, ◌⊎◌, ℕ, ◌+◌, ◌-◌, ◌*�
 use Rattle.block_host.specs.declared.block.Block.{Block}
 use Rattle.forest_model.specs.declared.stored.Rec.{Rec}
 use Rattle.doc_stream.specs.OpenBlock.{OpenBlock}
-use Rattle.doc_stream.specs.Records.{record_bytes, is_record}
+use Rattle.forest_model.specs.Records.{record_bytes, is_record}
 use Rattle.doc_stream.specs.Runs.{Piece, AreRecords}
 use Rattle.doc_stream.specs.Reading.{RecordAt}
 use Rattle.doc_stream.specs.Steps.{Asked, Place, in_hand, Following, SameBelow, Stretch}

@@ -4,7 +4,7 @@ use Rattle.block_host.specs.Sealed.{IsSealed}
 use Rattle.block_host.specs.declared.block.Block.{Block}
 use Rattle.forest_model.specs.declared.stored.Rec.{Rec}
 use Rattle.doc_stream.specs.OpenBlock.{OpenBlock, PutsBytes, address_of}
-use Rattle.doc_stream.specs.Records.{record_bytes, is_record}
+use Rattle.forest_model.specs.Records.{record_bytes, is_record}
 
 -- the blocks of the file, the open block behind them, the block at which its records begin, and these with their addresses
 pub record Writing : Type 0 where

@@ -4,7 +4,7 @@ ghost use Rattle.std.specs.List.{list_all};
 ghost use Rattle.forest_model.specs.Limits as limits;
 ghost use Rattle.forest_model.specs.declared.stored.Rec.{Rec};
 ghost use Rattle.doc_stream.specs.Heads.{allows, has_form, head_with};
-ghost use Rattle.doc_stream.specs.Records as records;
+ghost use Rattle.forest_model.specs.Records as records;
 
 use forest_model::Rec;
 

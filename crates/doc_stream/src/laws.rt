@@ -4,7 +4,7 @@ ghost use Rattle.block_host.specs.declared.block.Block.{Block};
 ghost use Rattle.forest_model.specs.declared.stored.Rec.{Rec};
 ghost use Rattle.doc_stream.specs.OpenBlock.{OpenBlock, PutsBytes, address_of};
 ghost use Rattle.doc_stream.specs.Reading.{RecordAt};
-ghost use Rattle.doc_stream.specs.Records.{is_record, record_bytes};
+ghost use Rattle.forest_model.specs.Records.{is_record, record_bytes};
 ghost use Rattle.doc_stream.specs.Runs.{RecordsOf};
 ghost use Rattle.doc_stream.specs.Writing.{Writing, Begins, Wrote};
 

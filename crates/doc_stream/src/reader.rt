@@ -4,7 +4,7 @@ ghost use Rattle.doc_stream.specs.Causes.{Reason};
 ghost use Rattle.doc_stream.specs.OpenBlock.{address_of};
 ghost use Rattle.doc_stream.specs.Sources.{asked_of};
 ghost use Rattle.doc_stream.specs.Steps.{IsNotOpen, IsWithin, Loads, Moves, Stands, Stops, StopsRecord, Takes, TakesRecord, Turns, Unsealed};
-ghost use Rattle.doc_stream.specs.Records as records;
+ghost use Rattle.forest_model.specs.Records as records;
 
 use crate::Tail;
 use crate::heads::{Head, has_form, head_in};

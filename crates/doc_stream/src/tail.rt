@@ -1,7 +1,7 @@
 ghost use Rattle.std.specs.Prelude.{◌≡◌, ◌≢◌, ◌+◌, ◌*◌, ◌/◌, ◌^◌, ◌<◌, ◌≤◌, ℕ, List, [], ◌++◌, length, IsTrue, IfOk, OnOk, OnErr, MatchOption, take, vec_len, vec_capacity};
 ghost use Rattle.block_host.specs.Sealed.{IsSealed};
 ghost use Rattle.doc_stream.specs.OpenBlock.{PutsBytes, address_of};
-ghost use Rattle.doc_stream.specs.Records.{is_record, head_bytes, record_bytes};
+ghost use Rattle.forest_model.specs.Records.{is_record, head_bytes, record_bytes};
 
 use block_host::{Block, seal};
 use forest_model::{Rec, Refusal};

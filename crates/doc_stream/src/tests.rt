@@ -1,5 +1,5 @@
 ghost use Rattle.std.specs.Prelude.{◌≡◌, ◌≤◌, false, [], length, IfOk, IsTrue};
-ghost use Rattle.doc_stream.specs.Records.{is_record};
+ghost use Rattle.forest_model.specs.Records.{is_record};
 
 use super::*;
 use crate::heads::has_form;

@@ -4,7 +4,7 @@ use Rattle.std.specs.Prelude.{sum_by}
 use Rattle.std.proofs.lemmas.List.Sums.{sum_by-cons}
 use Rattle.block_host.specs.declared.block.Block.{Block}
 use Rattle.doc_stream.specs.OpenBlock.{OpenBlock, PutsBytes}
-use Rattle.doc_stream.specs.Records.{record_bytes}
+use Rattle.forest_model.specs.Records.{record_bytes}
 use Rattle.forest_model.specs.Documents.{key_at, doc_of}
 use Rattle.forest_model.specs.Step.{item_length}
 use Rattle.forest_model.specs.declared.call.Item.{Item}

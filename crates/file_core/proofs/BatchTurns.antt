@@ -9,7 +9,7 @@ use Rattle.std.proofs.lemmas.Option.{same_Some, none-some}
 use Rattle.block_host.specs.declared.block.Block.{Block}
 use Rattle.doc_stream.specs.OpenBlock.{address_of}
 use Rattle.doc_stream.specs.Reading.{RecordAt}
-use Rattle.doc_stream.specs.Records.{record_bytes}
+use Rattle.forest_model.specs.Records.{record_bytes}
 use Rattle.file_image.specs.Commits.{live_bytes}
 use Rattle.forest_model.specs.Documents.{Map, key_at, doc_of, count_of, after_items}
 use Rattle.forest_model.specs.Stores.{store_of, at_seq, with_seq}

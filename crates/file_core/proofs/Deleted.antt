@@ -7,7 +7,7 @@ use Rattle.block_host.specs.Disk.{Disk}
 use Rattle.block_host.specs.declared.block.Block.{Block}
 use Rattle.doc_stream.specs.OpenBlock.{OpenBlock}
 use Rattle.doc_stream.specs.Reading.{RecordAt}
-use Rattle.doc_stream.specs.Records.{record_bytes}
+use Rattle.forest_model.specs.Records.{record_bytes}
 use Rattle.file_image.specs.Commits.{live_bytes}
 use Rattle.forest_model.specs.Blocks.{File}
 use Rattle.forest_model.specs.Documents.{Map, key_at, doc_at, count_of}

@@ -8,7 +8,7 @@ use Rattle.block_host.specs.Disk.{Disk}
 use Rattle.block_host.specs.declared.block.Block.{Block}
 use Rattle.doc_stream.specs.OpenBlock.{OpenBlock, PutsBytes, address_of}
 use Rattle.doc_stream.specs.Reading.{RecordAt}
-use Rattle.doc_stream.specs.Records.{is_record, record_bytes}
+use Rattle.forest_model.specs.Records.{is_record, record_bytes}
 use Rattle.forest_model.specs.Blocks.{File, is_records}
 use Rattle.forest_model.specs.Run.{FileAfter, Grows, AddsRecords}
 use Rattle.forest_model.specs.Step.{record_length}

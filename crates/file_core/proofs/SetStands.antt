@@ -3,7 +3,7 @@ use Rattle.std.proofs.Common.{◌≡◌, ◌≢◌, ℕ, ◌+◌, ◌-◌, ◌^�
 use Rattle.std.specs.Prelude.{min, is_none, is_some, Result, if◌then◌else◌}
 use Rattle.std.specs.Option.{option_map_or}
 use Rattle.std.specs.FinMap as finite
-use Rattle.doc_stream.specs.Records.{record_bytes}
+use Rattle.forest_model.specs.Records.{record_bytes}
 use Rattle.file_image.specs.Commits.{live_bytes}
 use Rattle.forest_model.specs.Blocks.{File}
 use Rattle.forest_model.specs.Documents.{Map, key_at, doc_of, count_of}

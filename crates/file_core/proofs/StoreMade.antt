@@ -4,7 +4,7 @@ use Rattle.std.specs.Prelude.{is_none, MatchBool, MatchOption, MatchResult, Resu
 use Rattle.std.specs.Option.{option_map, option_map_or}
 use Rattle.std.proofs.lemmas.Bool.{ne_eqb}
 use Rattle.std.proofs.lemmas.Option.{none-some, same_Some}
-use Rattle.doc_stream.specs.Records.{record_bytes}
+use Rattle.forest_model.specs.Records.{record_bytes}
 use Rattle.forest_model.specs.Blocks.{File}
 use Rattle.forest_model.specs.Run.{FileAfter, Grows, AddsRecords}
 use Rattle.forest_model.specs.State.{IsState}

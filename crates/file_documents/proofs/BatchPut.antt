@@ -4,7 +4,7 @@ use Rattle.std.specs.Prelude.{IsTrue}
 use Rattle.std.specs.FinMap as finite
 use Rattle.block_host.specs.declared.block.Block.{Block}
 use Rattle.doc_stream.specs.OpenBlock.{OpenBlock, PutsBytes, address_of}
-use Rattle.doc_stream.specs.Records.{is_record, record_bytes}
+use Rattle.forest_model.specs.Records.{is_record, record_bytes}
 use Rattle.forest_model.specs.Documents.{key_at}
 use Rattle.forest_model.specs.declared.call.Item.{Item}
 use Rattle.forest_model.specs.declared.call.Item.TheVariants.{Put, Del}

@@ -3,7 +3,7 @@ use Rattle.std.specs.Prelude.{◌≡◌, ◌+◌, ◌-◌, ℕ, true, false, Lis
 use Rattle.std.specs.FinMap as finite
 use Rattle.block_host.specs.declared.block.Block.{Block}
 use Rattle.doc_stream.specs.OpenBlock.{OpenBlock, PutsBytes}
-use Rattle.doc_stream.specs.Records.{is_record, record_bytes}
+use Rattle.forest_model.specs.Records.{is_record, record_bytes}
 use Rattle.forest_model.specs.Documents.{key_at}
 use Rattle.forest_model.specs.Step.{record_length}
 use Rattle.forest_model.specs.declared.call.Item.{Item}

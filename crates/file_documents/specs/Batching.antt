@@ -6,7 +6,7 @@ use Rattle.std.specs.List.{list_any}
 use Rattle.block_host.specs.Disk.{risen}
 use Rattle.block_host.specs.declared.block.Block.{Block}
 use Rattle.doc_stream.specs.OpenBlock.{OpenBlock, PutsBytes}
-use Rattle.doc_stream.specs.Records.{is_record, record_bytes}
+use Rattle.forest_model.specs.Records.{is_record, record_bytes}
 use Rattle.forest_model.specs.Documents.{key_at, doc_of}
 use Rattle.forest_model.specs.Limits.{has_wrong_key, has_wrong_body, any_worn}
 use Rattle.forest_model.specs.Step.{◌where_holds◌, first_cause, item_length, record_length}

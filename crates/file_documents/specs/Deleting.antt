@@ -3,7 +3,7 @@ use Rattle.std.specs.Prelude.{◌≡◌, ◌≤◌, ◌<◌, ◌⊎◌, ◌+◌,
 use Rattle.std.specs.FinMap as finite
 use Rattle.block_host.specs.Disk.{risen}
 use Rattle.doc_stream.specs.OpenBlock.{OpenBlock, address_of}
-use Rattle.doc_stream.specs.Records.{is_record, record_bytes}
+use Rattle.forest_model.specs.Records.{is_record, record_bytes}
 use Rattle.forest_model.specs.Documents.{key_at}
 use Rattle.forest_model.specs.Limits.{is_wrong_key, any_worn}
 use Rattle.forest_model.specs.Step.{◌where_holds◌, first_cause, record_length}

@@ -4,7 +4,7 @@ use Rattle.std.specs.FinMap as finite
 use Rattle.block_host.specs.Disk.{risen}
 use Rattle.block_host.specs.declared.block.Block.{Block}
 use Rattle.doc_stream.specs.OpenBlock.{OpenBlock, PutsBytes, address_of}
-use Rattle.doc_stream.specs.Records.{record_bytes, is_record}
+use Rattle.forest_model.specs.Records.{record_bytes, is_record}
 use Rattle.forest_model.specs.Documents.{key_at, doc_of}
 use Rattle.forest_model.specs.Limits.{is_wrong_key, is_wrong_body, any_worn}
 use Rattle.forest_model.specs.Step.{◌where_holds◌, first_cause, record_length}

@@ -1,7 +1,7 @@
 ghost use Rattle.std.specs.Prelude.{◌≡◌, ◌≢◌, ◌⊎◌, ◌≤◌, ◌<◌, ◌+◌, ◌^◌, false, true, [], length, IsTrue, is_some, Err, IfOk, OnOk, OnErr};
 ghost use Rattle.std.specs.FinMap as finite;
 ghost use Rattle.std.specs.List.{list_any};
-ghost use Rattle.doc_stream.specs.Records.{is_record};
+ghost use Rattle.forest_model.specs.Records.{is_record};
 ghost use Rattle.forest_model.specs.Documents.{key_at};
 ghost use Rattle.forest_model.specs.Limits as limits;
 ghost use Rattle.forest_model.specs.declared.refusal.Refusal.TheVariants as Refusal;

@@ -1,7 +1,7 @@
 -- What is known of a record once it is put.
 use Rattle.std.proofs.Common.{◌≡◌, Bool, ◌++◌, [], length, arith, length-append, sym, ap, subst, ◌∙◌}
 use Rattle.doc_stream.specs.OpenBlock.{OpenBlock, PutsBytes}
-use Rattle.doc_stream.specs.Records.{record_bytes}
+use Rattle.forest_model.specs.Records.{record_bytes}
 use Rattle.forest_model.specs.Step.{record_length}
 use Rattle.forest_model.specs.declared.stored.Rec.{Rec}
 use Rattle.wal_index.specs.Index.{Index}

@@ -1,6 +1,6 @@
 ghost use Rattle.std.specs.Prelude.{◌≡◌, ◌≢◌, ◌≤◌, ◌<◌, ◌+◌, ◌^◌, length, IsTrue, Some, Err, IfOk, IfErr, OnOk, OnErr};
 ghost use Rattle.doc_stream.specs.OpenBlock.{address_of};
-ghost use Rattle.doc_stream.specs.Records.{is_record, record_bytes};
+ghost use Rattle.forest_model.specs.Records.{is_record, record_bytes};
 ghost use Rattle.file_parts.specs.Held.{held};
 ghost use Rattle.file_parts.specs.Moment.{Aside, moment_of};
 ghost use Rattle.file_parts.specs.Records.{PutsRecord, NotPut};

@@ -1,26 +1,23 @@
--- What the sequential store reads of a file: the kinds of its blocks, its headers by their links, and the keys that its records name.
-use Rattle.std.specs.Prelude.{ℕ, ◌+◌, ◌-◌, suc, zero, List, [], ◌∷◌, length, take, drop, map, filter, Option, Some, None, Bool, ◌||◌, ◌==◌, nat_le, count_by, slice_index, slice_index_or, slice_range, if◌then◌else◌}
-use Rattle.std.specs.List.{flat_map}
+-- What the sequential store reads of a file: the kinds of its blocks, its headers by their links, and the bytes in its record blocks.
+use Rattle.std.specs.Prelude.{ℕ, ◌+◌, ◌-◌, suc, zero, List, [], length, take, drop, filter, Option, Some, None, Bool, ◌&&◌, ◌||◌, ◌==◌, nat_lt, slice_index, slice_index_or, slice_range, if◌then◌else◌}
+use Rattle.std.specs.List.{flat_map, list_all}
 use Rattle.std.specs.Option.{option_map_or}
-use Rattle.std.specs.Int.{w16, w32, w64, from_be_bytes}
-use Rattle.std.specs.FinMap as finite
-use Rattle.forest_model.specs.Key.{key_cmp}
-use Rattle.forest_model.specs.Documents.{key_at}
-use Rattle.forest_model.specs.declared.documents.DocKey.{DocKey}
+use Rattle.std.specs.Int.{w16, w64, from_be_bytes}
 
--- 4,096 bytes; and a file as its blocks
+-- a block by its bytes, and a file as its blocks
 abbrev pub Block : Type 0
 Block = List ℕ
 
 abbrev pub File : Type 0
 File = List Block
 
+-- 4,096 bytes
+abbrev pub is_block : Block → Bool
+is_block block = (length block == 4096) && list_all (λ b. nat_lt b 256) block
+
 -- numbers of a block by their first byte
 abbrev pub long_at : List ℕ → ℕ → ℕ
 long_at bytes at = from_be_bytes w64 (slice_range bytes at (at + 8))
-
-abbrev pub int_at : List ℕ → ℕ → ℕ
-int_at bytes at = from_be_bytes w32 (slice_range bytes at (at + 4))
 
 abbrev pub short_at : List ℕ → ℕ → ℕ
 short_at bytes at = from_be_bytes w16 (slice_range bytes at (at + 2))
@@ -69,33 +66,36 @@ header_of file number (suc links) (Some at) =
 abbrev pub header_numbered : File → ℕ → Option ℕ
 header_numbered file number = header_of file number (length file) (last_header file)
 
--- how many record blocks there are from a block up to, not including, another
-abbrev pub record_blocks : File → ℕ → ℕ → ℕ
-record_blocks file from to = count_by is_records (slice_range file from to)
+-- the record blocks from a block up to, not including, another
+abbrev pub record_blocks : File → ℕ → ℕ → File
+record_blocks file from to = filter is_records (slice_range file from to)
 
 -- the record blocks of the commit with this number that its trees don't hold
+abbrev pub blocks_of_commit : File → ℕ → File
+blocks_of_commit file number =
+    option_map_or (λ at. record_blocks file (wal_from (block_at file at)) at) (header_numbered file number) []
+
 abbrev pub blocks_to_copy : File → ℕ → ℕ
-blocks_to_copy file number =
-    option_map_or (λ at. record_blocks file (wal_from (block_at file at)) at) (header_numbered file number) 0
+blocks_to_copy file number = length (blocks_of_commit file number)
 
--- the bytes of the records in record blocks, from a block to the end
+-- the record blocks behind the last header, which are those of uncommitted updates
+abbrev pub uncommitted_blocks : File → File
+uncommitted_blocks file = filter is_records (drop (option_map_or suc (last_header file) 0) file)
+
+-- how many bytes of a block are in use, and these
+abbrev pub in_use : Block → ℕ
+in_use block = short_at block 4066
+
 abbrev pub used_bytes : Block → List ℕ
-used_bytes block = take (short_at block 4066) block
+used_bytes block = take (in_use block) block
 
-abbrev pub record_bytes : File → List ℕ
-record_bytes file = flat_map used_bytes (filter is_records file)
+-- the bytes of the records in the record blocks
+abbrev pub stored_bytes : File → List ℕ
+stored_bytes file = flat_map used_bytes (filter is_records file)
 
--- the pairs of store and key that records name, so many records at most: each has a head of 24 bytes, key, meta and body, and kinds 1 and 2 name a key
-unfoldable pub named : ℕ → List ℕ → List DocKey
-named zero bytes = []
-named (suc more) [] = []
-named (suc more) (kind ∷ rest) =
-    let bytes = kind ∷ rest in
-    let after = named more (drop (24 + short_at bytes 2 + slice_index bytes 1 + int_at bytes 4) bytes) in
-    if nat_le kind 2 then key_at (long_at bytes 8) (slice_range bytes 24 (24 + short_at bytes 2)) ∷ after else after
+-- a record block with this many bytes of records, and one that has no room left
+abbrev pub is_records_of : ℕ → Block → Bool
+is_records_of bytes block = is_records block && (in_use block == bytes)
 
--- how many different pairs the records from a block on name
-unfoldable pub pairs_named : File → ℕ
-pairs_named file =
-    let bytes = record_bytes file in
-    finite.len {X = ℕ} (finite.from_entries {R = key_cmp} (map (λ k. (k, 0)) (named (length bytes) bytes)))
+abbrev pub is_full : Block → Bool
+is_full = is_records_of 4064

@@ -4,6 +4,7 @@ pub mod Documents
 pub mod Stores
 pub mod Stored
 pub mod State
+pub mod Records
 pub mod Blocks
 pub mod Step
 pub mod Session

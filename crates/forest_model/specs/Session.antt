@@ -9,7 +9,7 @@ use Rattle.forest_model.specs.Documents.{Map, Entry, doc_at, doc_numbered, is_of
 use Rattle.forest_model.specs.Stores.{store_of, has_seq}
 use Rattle.forest_model.specs.State.{retained}
 use Rattle.forest_model.specs.Blocks.{File}
-use Rattle.forest_model.specs.Step.{Outcome, ◌where_holds◌, first_cause, step_of, found_of, ticket_of}
+use Rattle.forest_model.specs.Step.{Outcome, ◌where_holds◌, first_cause, refused_or, step_of, found_of, ticket_of}
 use Rattle.forest_model.specs.declared.call.StoreRef.{StoreRef}
 use Rattle.forest_model.specs.declared.call.Call.{Call}
 use Rattle.forest_model.specs.declared.call.Call.TheVariants as calls
@@ -35,13 +35,13 @@ pub record Snapshot : Type 0 where
   pub documents : Map
   pub commit : ℕ
 
--- The run's copier: its ticket, its base, the place of its begin, the documents left to copy, and the blocks in use and needed if its file was full.
+-- The run's copier: its ticket, its base, the place of its begin, the documents left to copy, and the refusal that it keeps if its file was full.
 pub record Copier : Type 0 where
   pub ticket : ℕ
   pub base : ℕ
   pub place : ℕ
   pub left : ℕ
-  pub full : Option (ℕ × ℕ)
+  pub failed : Option Refusal
 
 -- A lane: its store, the place that it printed last, and its snapshot.
 pub record Lane : Type 0 where
@@ -65,12 +65,15 @@ first_session s = record { state = s; lanes = λ _. first_lane; copier = None }
 abbrev pub with_lane : (ℕ → Lane) → ℕ → Lane → ℕ → Lane
 with_lane lanes n lane m = if m == n then lane else lanes m
 
--- what a copier that there may be asks for: its ticket, and what is left where it hasn't met a full file
+-- what a copier that there may be asks for: its ticket, and what is left where it hasn't failed; and the refusal that it keeps
 abbrev pub copier_ticket : Option Copier → ℕ
 copier_ticket copier = option_map_or (λ c. c.ticket) copier 0
 
 abbrev pub copier_left : Option Copier → ℕ
-copier_left copier = option_map_or (λ c. if is_none c.full then c.left else 0) copier 0
+copier_left copier = option_map_or (λ c. if is_none c.failed then c.left else 0) copier 0
+
+abbrev pub copier_failed : Option Copier → Option Refusal
+copier_failed copier = option_map_or (λ c. c.failed) copier None
 
 -- the call on the file that a line makes; none of a line on the lane's snapshot, of `compact copy` and of the server's line
 abbrev pub call_of : Lane → Option Copier → Verb → Option Call
@@ -93,45 +96,40 @@ call_of lane copier CompactSwitch = Some (calls.Switch lane.at (copier_ticket co
 call_of lane copier CompactCancel = Some (calls.Cancel lane.at (copier_ticket copier))
 call_of lane copier verb = None
 
--- how a line tells the reply of its call
-abbrev pub said_of : Verb → Reply → Said
-said_of verb (replies.Refused why) = says.Refused why
-said_of (Del key) (replies.Seq seq) = says.Gone seq
-said_of verb (replies.Seq seq) = says.Done seq
-said_of (BySeq seq) (replies.Document found) = says.At found
-said_of verb (replies.Document found) = says.Got found
-said_of verb (replies.InfoIs info) = says.InfoIs info
-said_of verb (replies.MarkersAre numbers) = says.MarkersAre numbers
-said_of verb (replies.Store at) = says.Using at.store
-said_of verb (replies.Removed id) = says.Removed id
-said_of verb (replies.Committed number) = says.Committed number
-said_of verb (replies.Rolled number) = says.Rolled number
-said_of verb replies.Snapped = says.SnapOpened
-said_of verb (replies.Begun ticket base) = says.Begun ticket base
-said_of verb (replies.Caught number) = says.Caught number
-said_of verb (replies.Switched number) = says.Switched number
-said_of verb replies.Cancelled = says.Cancelled
+abbrev pub call_in : Session → Line → Option Call
+call_in w line = call_of (w.lanes line.lane) w.copier line.verb
 
--- the copier's full file: the blocks in use and needed, of at most 2^40
-abbrev pub copier_full : ℕ × ℕ → Refusal
-copier_full blocks = FileFull blocks.0 blocks.1 (2 ^ 40)
+-- how the reply of a call is said
+abbrev pub said_of : Call → Reply → Said
+said_of call (replies.Refused why) = says.Refused why
+said_of (calls.Delete at key) (replies.Seq seq) = says.Gone seq
+said_of call (replies.Seq seq) = says.Done seq
+said_of (calls.BySeq at seq) (replies.Document found) = says.At found
+said_of call (replies.Document found) = says.Got found
+said_of call (replies.InfoIs info) = says.InfoIs info
+said_of call (replies.MarkersAre numbers) = says.MarkersAre numbers
+said_of call (replies.Store at) = says.Using at.store
+said_of call (replies.Removed id) = says.Removed id
+said_of call (replies.Committed number) = says.Committed number
+said_of call (replies.Rolled number) = says.Rolled number
+said_of call replies.Snapped = says.SnapOpened
+said_of call (replies.Begun ticket base) = says.Begun ticket base
+said_of call (replies.Caught number) = says.Caught number
+said_of call (replies.Switched number) = says.Switched number
+said_of call replies.Cancelled = says.Cancelled
 
--- a copier that has met a full file answers so again, where the call would be answered Ok
-abbrev pub copier_refusal : Option Copier → Option Refusal
-copier_refusal copier = option_map_or (λ c. option_map_or (λ blocks. Some (copier_full blocks)) c.full None) copier None
+-- what is said where documents or records went to the copier's new file
+abbrev pub is_copied : Said → Bool
+is_copied (says.Copied count left) = nat_lt 0 count
+is_copied (says.Caught number) = true
+is_copied (says.Switched number) = true
+is_copied said = false
 
-abbrev pub needs_copy : Verb → Reply → Bool
-needs_copy CompactDelta (replies.Caught number) = true
-needs_copy CompactSwitch (replies.Switched number) = true
-needs_copy verb reply = false
-
-abbrev pub refused_again : Option Refusal → State → Outcome → Outcome
-refused_again None s outcome = outcome
-refused_again (Some why) s outcome = (replies.Refused why, s)
-
-abbrev pub with_copier_full : State → Option Copier → Verb → Outcome → Outcome
-with_copier_full s copier verb outcome =
-    if needs_copy verb outcome.0 then refused_again (copier_refusal copier) s outcome else outcome
+-- the outcome of a call, but for a copier that has failed: it is refused by what the copier keeps where it would be answered Ok
+abbrev pub outcome_of : Session → File → Call → Outcome
+outcome_of w file call =
+    let outcome = step_of w.state file call in
+    if is_copied (said_of call outcome.0) then refused_or (copier_failed w.copier) w.state outcome else outcome
 
 -- the snapshot of the state now, and of a commit
 abbrev pub latest : State → Snapshot
@@ -140,18 +138,19 @@ latest s = record { place = s.place; stores = s.stores; documents = s.documents;
 abbrev pub snapshot_of : State → CommitRow → Snapshot
 snapshot_of s c = record { place = s.place; stores = c.stores; documents = c.documents; commit = c.number }
 
-abbrev pub opened_snapshot : Lane → Verb → State → Option Snapshot
-opened_snapshot lane (SnapAt seq) s = option_map_or (λ c. Some (snapshot_of s c)) (find (has_seq lane.at.store seq) (retained s)) None
-opened_snapshot lane verb s = Some (latest s)
+-- the snapshot that a call opens
+abbrev pub opened_snapshot : Call → State → Option Snapshot
+opened_snapshot (calls.SnapAt at seq) s = option_map_or (λ c. Some (snapshot_of s c)) (find (has_seq at.store seq) (retained s)) None
+opened_snapshot call s = Some (latest s)
 
 -- the lane and the copier that a reply of the file leaves
-abbrev pub lane_after : Lane → Verb → Reply → State → Lane
-lane_after lane verb (replies.Store at) s = record lane { at = at; printed = s.place }
-lane_after lane verb replies.Snapped s = record lane { snapshot = opened_snapshot lane verb s; printed = s.place }
-lane_after lane verb reply s = record lane { printed = s.place }
+abbrev pub lane_after : Lane → Call → Reply → State → Lane
+lane_after lane call (replies.Store at) s = record lane { at = at; printed = s.place }
+lane_after lane call replies.Snapped s = record lane { snapshot = opened_snapshot call s; printed = s.place }
+lane_after lane call reply s = record lane { printed = s.place }
 
 abbrev pub begun : State → ℕ → ℕ → Copier
-begun s ticket base = record { ticket = ticket; base = base; place = s.place; left = finite.len s.last.documents; full = None }
+begun s ticket base = record { ticket = ticket; base = base; place = s.place; left = finite.len s.last.documents; failed = None }
 
 abbrev pub copier_after : Option Copier → Reply → State → Option Copier
 copier_after copier (replies.Begun ticket base) s = Some (begun s ticket base)
@@ -159,20 +158,19 @@ copier_after copier (replies.Switched number) s = None
 copier_after copier replies.Cancelled s = None
 copier_after copier reply s = copier
 
--- a session with what it tells
-abbrev pub Telling : Type 0
-Telling = Session × Told
+-- one turn of a session: the session after a line, and what the line is told
+abbrev pub Turn : Type 0
+Turn = Session × Told
 
-abbrev pub told_by_file : Session → Line → Outcome → Telling
-told_by_file w line outcome =
-    let lane = w.lanes line.lane in (
-      record {
-        state = outcome.1;
-        lanes = with_lane w.lanes line.lane (lane_after lane line.verb outcome.0 outcome.1);
-        copier = copier_after w.copier outcome.0 outcome.1;
-      },
-      record { lane = line.lane; place = outcome.1.place; said = said_of line.verb outcome.0 },
-    )
+abbrev pub turn_by_file : Session → Line → Call → Outcome → Turn
+turn_by_file w line call outcome = (
+  record {
+    state = outcome.1;
+    lanes = with_lane w.lanes line.lane (lane_after (w.lanes line.lane) call outcome.0 outcome.1);
+    copier = copier_after w.copier outcome.0 outcome.1;
+  },
+  record { lane = line.lane; place = outcome.1.place; said = said_of call outcome.0 },
+)
 
 -- documents of a store by key, from a bound on, and by sequence number; the empty key and 0 are no bounds
 abbrev pub is_within : Bool → List ℕ → Entry → Bool
@@ -231,74 +229,60 @@ is_close SnapClose = true
 is_close verb = false
 
 -- a line on the lane's snapshot: its place is the snapshot's, and without one the place that the lane printed last
-abbrev pub told_by_snapshot : Session → Line → Option Snapshot → Telling
-told_by_snapshot w line None =
+abbrev pub turn_by_snapshot : Session → Line → Option Snapshot → Turn
+turn_by_snapshot w line None =
     (w, record { lane = line.lane; place = (w.lanes line.lane).printed; said = not_shown line.verb })
-told_by_snapshot w line (Some snapshot) =
+turn_by_snapshot w line (Some snapshot) =
     let lane = w.lanes line.lane in (
       record w { lanes = with_lane w.lanes line.lane (record lane { printed = snapshot.place; snapshot = if is_close line.verb then None else Some snapshot }) },
       record { lane = line.lane; place = snapshot.place; said = shown snapshot lane.at line.verb },
     )
 
--- a line that tells something at a place and may change the copier
-abbrev pub telling_at : Session → Line → Option Copier → ℕ → Said → Telling
-telling_at w line copier place said = (
+-- a line that leaves the state, and maybe another copier
+abbrev pub turn_at : Session → Line → Option Copier → ℕ → Said → Turn
+turn_at w line copier place said = (
   record w { lanes = with_lane w.lanes line.lane (record (w.lanes line.lane) { printed = place }); copier = copier },
   record { lane = line.lane; place = place; said = said },
 )
 
 -- `compact copy` takes the next documents of the base, at the place of the begin
-abbrev pub told_by_copier : Session → Line → ℕ → Option Copier → Telling
-told_by_copier w line count None = telling_at w line None w.state.place (says.Refused (NoTicket 0 (ticket_of w.state)))
-told_by_copier w line count (Some c) =
-    if is_none c.full
-    then telling_at w line (Some (record c { left = c.left - min count c.left })) c.place (says.Copied (min count c.left) (c.left - min count c.left))
-    else telling_at w line (Some c) c.place (option_map_or (λ blocks. says.Refused (copier_full blocks)) c.full (says.Refused NotFound))
+abbrev pub turn_by_copier : Session → Line → ℕ → Option Copier → Turn
+turn_by_copier w line count None = turn_at w line None w.state.place (says.Refused (NoTicket 0 (ticket_of w.state)))
+turn_by_copier w line count (Some c) =
+    let copied = min count c.left in
+    turn_at w line (Some (if is_none c.failed then record c { left = c.left - copied } else c)) c.place
+    (refused_or_said c.failed (says.Copied copied (c.left - copied)))
 
-abbrev pub told_aside : Session → Line → Verb → Option Telling
-told_aside w line Compact = None
-told_aside w line (CompactCopy count) = Some (told_by_copier w line count w.copier)
-told_aside w line verb = Some (told_by_snapshot w line (w.lanes line.lane).snapshot)
+-- a line that makes no call of the file; none of the server's one line, which stands for several calls
+abbrev pub turn_aside : Session → Line → Verb → Option Turn
+turn_aside w line Compact = None
+turn_aside w line (CompactCopy count) = Some (turn_by_copier w line count w.copier)
+turn_aside w line verb = Some (turn_by_snapshot w line (w.lanes line.lane).snapshot)
 
-abbrev pub told_of : Session → File → Line → Option Call → Option Telling
-told_of w file line None = told_aside w line line.verb
-told_of w file line (Some call) =
-    Some (told_by_file w line (with_copier_full w.state w.copier line.verb (step_of w.state file call)))
+-- what a line leaves and is told, where its copier's file isn't full
+abbrev pub turn_of : Session → File → Line → Option Turn
+turn_of w file line = option_map_or (λ call. Some (turn_by_file w line call (outcome_of w file call))) (call_in w line) (turn_aside w line line.verb)
 
--- what a line leaves and tells; none of the server's one line, which stands for several calls
-abbrev pub told : Session → File → Line → Option Telling
-told w file line = told_of w file line (call_of (w.lanes line.lane) w.copier line.verb)
+-- the place of a line that a full copy refuses
+abbrev pub place_of_copy : Session → Copier → Said → ℕ
+place_of_copy w c (says.Copied count left) = c.place
+place_of_copy w c said = w.state.place
 
--- a line that works on the copier's new file, and the place that it tells
-abbrev pub uses_copy : Verb → Bool
-uses_copy (CompactCopy count) = true
-uses_copy CompactDelta = true
-uses_copy CompactSwitch = true
-uses_copy verb = false
-
-abbrev pub place_of_copy : Session → Copier → Verb → ℕ
-place_of_copy w c (CompactCopy count) = c.place
-place_of_copy w c verb = w.state.place
-
-abbrev pub is_refused : Said → Bool
-is_refused (says.Refused why) = true
-is_refused said = false
-
--- The copier's new file may be full where the line would be answered Ok: which line meets it isn't determined, its numbers show it.
+-- The copier's new file may be full where something would go to it: which line meets it isn't determined, its numbers show it.
 pub record MeetsFullCopy (w : Session) (file : File) (line : Line) (next : Session) (t : Told) : Type 0 where
   pub copier : Copier
   pub there : w.copier ≡ Some copier
-  pub not_before : copier.full ≡ None
-  pub on_copy : IsTrue (uses_copy line.verb)
-  pub otherwise : Telling
-  pub would_do : told w file line ≡ Some otherwise
-  pub not_refused : is_refused otherwise.1.said ≡ false
+  pub not_before : copier.failed ≡ None
+  pub otherwise : Turn
+  pub would_do : turn_of w file line ≡ Some otherwise
+  pub would_copy : IsTrue (is_copied otherwise.1.said)
   pub used : ℕ
   pub needed : ℕ
+  pub in_file : used ≤ 2 ^ 40
   pub at_most : needed ≤ 260
   pub beyond : 2 ^ 40 < used + needed
-  pub is : telling_at w line (Some (record copier { full = Some (used, needed) })) (place_of_copy w copier line.verb) (says.Refused (copier_full (used, needed))) ≡ (next, t)
+  pub is : (let full = FileFull used needed (2 ^ 40) in turn_at w line (Some (record copier { failed = Some full })) (place_of_copy w copier otherwise.1.said) (says.Refused full)) ≡ (next, t)
 
--- a line tells what is determined, or that the copier's new file is full
-abbrev pub Tells : Session → File → Line → Session → Told → Type 0
-Tells w file line next t = (told w file line ≡ Some (next, t)) ⊎ MeetsFullCopy w file line next t
+-- what a line may leave and be told: what is determined, or that the copier's new file is full
+abbrev pub IsTurn : Session → File → Line → Session → Told → Type 0
+IsTurn w file line next t = (turn_of w file line ≡ Some (next, t)) ⊎ MeetsFullCopy w file line next t

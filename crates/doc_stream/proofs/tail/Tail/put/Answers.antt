@@ -1,5 +1,5 @@
 use Rattle.std.proofs.Common.{length, ap, arith}
-use Rattle.doc_stream.specs.Records.{head_bytes}
+use Rattle.forest_model.specs.Records.{head_bytes}
 use Rattle.doc_stream.proofs.Puts.{length-put, put_four}
 use Rattle.doc_stream.proofs.tail.Tail.put.Goals as goal
 
