@@ -6,7 +6,7 @@ ghost use Rattle.block_host.specs.Calls.{block_at, Written};
 use crate::{Block, Failed, Settled};
 
 /// A new file, outside the host's images until it is settled and adopted.
-pub trait Fresh: Send + Drop {
+pub trait Fresh: Drop {
     /// Whether the file tells its blocks.
     ghost tells: { Bool };
 

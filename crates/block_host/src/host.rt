@@ -7,9 +7,9 @@ use crate::{Block, Failed, Fresh, Settled, View};
 /// The files, by number, and what is said on the output. File 0 is the meta file. An absent file is empty, and no
 /// argument is a reason to fail.
 pub trait Host: Send {
-    type View: View;
+    type View: View + Send;
 
-    type Fresh: Fresh;
+    type Fresh: Fresh + Send;
 
     /// Whether the host tells its content. A clause on content holds where it does.
     ghost tells: { Bool };

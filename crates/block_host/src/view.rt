@@ -7,7 +7,7 @@ use crate::{Block, Failed};
 
 /// Reads the blocks that a file had when the view was made or last renewed. No other call changes them, also where the
 /// file is written or removed.
-pub trait View: Send + Drop {
+pub trait View: Drop {
     /// Whether the view tells its blocks.
     ghost tells: { Bool };
 
