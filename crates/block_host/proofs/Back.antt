@@ -1,7 +1,9 @@
 -- What stands in a sealed block, read back.
-use Rattle.std.proofs.Common.{◌≡◌, ℕ, ◌+◌, ◌-◌, ◌<◌, List, [], ◌∷◌, ◌++◌, length, take, get_or, refl, sym, ◌∙◌, ap, arith, append_assoc}
+use Rattle.std.proofs.Common.{◌≡◌, ℕ, ◌+◌, ◌-◌, ◌<◌, List, [], ◌∷◌, ◌++◌, length, take, drop, get_or, refl, sym, ◌∙◌, ap, arith, append_assoc}
 use Rattle.std.specs.Int.{w16, w64, to_be_bytes, from_be_bytes}
 use Rattle.std.proofs.lemmas.List.{take_at, get_or-append-add, get_or-replicate}
+use Rattle.std.specs.Prelude.{slice_range}
+use Rattle.std.proofs.Math.Seq.{drop-append-add}
 use lib.Pointwise.{pointwise}
 use Rattle.std.proofs.Common.{true, eqb, eq-eqb}
 use Rattle.std.proofs.lemmas.Nat.{from_be_bytes-to_be_bytes_2}
@@ -40,6 +42,16 @@ module _ (revision at kind : ℕ) (payload : List ℕ) (block : Block) (sealed :
       let low = ap (λ (bytes : List ℕ). get_or bytes 4067 0) whole ∙ get_or-behind (padded 4064 payload) behind 3 4064 long in
       ap (λ (a : ℕ). from_be_bytes w16 (a ∷ get_or block.bytes 4067 0 ∷ [])) high
       ∙ ap (λ (a : ℕ). from_be_bytes w16 (get_or behind 2 0 ∷ a ∷ [])) low
+      ∙ from_be_bytes-to_be_bytes_2 (length payload) (omega (arith, sealed.fits))
+
+  -- the same, as a range of bytes
+  pub in_use_back : from_be_bytes w16 (slice_range block.bytes 4066 4068) ≡ length payload
+  in_use_back =
+      let split = sealed_split revision at kind payload in
+      let behind = kind ∷ 1 ∷ (to_be_bytes w16 (length payload) ++ split.0) in
+      ap (λ (bytes : List ℕ). from_be_bytes w16 (slice_range bytes 4066 4068)) (sealed.bytes ∙ split.1)
+      ∙ ap (λ (n : ℕ). from_be_bytes w16 (take 2 (drop (n + 2) (padded 4064 payload ++ behind)))) (sym (length-padded 4064 payload sealed.fits))
+      ∙ ap (λ (bytes : List ℕ). from_be_bytes w16 (take 2 bytes)) (drop-append-add (padded 4064 payload) behind 2)
       ∙ from_be_bytes-to_be_bytes_2 (length payload) (omega (arith, sealed.fits))
 
   pub payload_back : take (length payload) block.bytes ≡ payload

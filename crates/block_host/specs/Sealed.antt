@@ -1,5 +1,6 @@
 -- What a sealed block is.
-use Rattle.std.specs.Prelude.{◌≡◌, ◌-◌, ◌≤◌, ℕ, List, [], ◌∷◌, ◌++◌, length, take, replicate}
+use Rattle.std.specs.Prelude.{◌≡◌, ◌-◌, ◌≤◌, ◌&&◌, ◌==◌, ℕ, Bool, IsTrue, List, [], ◌∷◌, ◌++◌, length, take, replicate, nat_lt}
+use Rattle.std.specs.List.{list_all}
 use Rattle.std.specs.Int.{w16, w64, to_be_bytes}
 use Rattle.sha2.specs.Sha256.{sha256}
 use Rattle.block_host.specs.declared.block.Block.{Block}
@@ -27,12 +28,17 @@ sealed_front revision at kind payload =
 unfoldable pub with_checksum : List ℕ → List ℕ
 with_checksum front = front ++ take 8 (sha256 front)
 
+-- 4,096 bytes
+abbrev pub is_whole : List ℕ → Bool
+is_whole bytes = (length bytes == 4096) && list_all (λ b. nat_lt b 256) bytes
+
 -- the block is sealed for this revision and number, with this kind and payload
 pub record IsSealed (revision at kind : ℕ) (payload : List ℕ) (block : Block) : Type 0 where
   pub least : 1 ≤ kind
   pub greatest : kind ≤ 5
   pub fits : length payload ≤ 4064
   pub bytes : block.bytes ≡ with_checksum (sealed_front revision at kind payload)
+  pub whole : IsTrue (is_whole block.bytes)
 
 -- a torn block of a file, which is sealed for neither its revision nor its number
 abbrev pub IsTorn : ℕ → ℕ → Block → Type 0

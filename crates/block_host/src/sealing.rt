@@ -1,4 +1,5 @@
-ghost use Rattle.std.specs.Prelude.{◌≡◌, ◌+◌, ◌≤◌, ℕ, List, [], ◌∷◌, ◌++◌, length, take, slice_index, MatchOption};
+ghost use Rattle.std.specs.Prelude.{◌≡◌, ◌+◌, ◌≤◌, ℕ, IsTrue, List, [], ◌∷◌, ◌++◌, length, take, nat_lt, slice_index, MatchOption};
+ghost use Rattle.std.specs.List.{list_all};
 ghost use Rattle.std.specs.Int.{w16, from_be_bytes};
 ghost use Rattle.sha2.specs.Sha256.{sha256};
 ghost use Rattle.block_host.specs.Sealed.{IsSealed, IsTorn, zero_block, padded};
@@ -31,6 +32,7 @@ pub fn seal(kind: u8, rev: u64, at: u64, payload: &[u8]) -> Block
     put(&mut bytes, 4080, &at.to_be_bytes());
     let checksum = checksum_of(&bytes);
     put(&mut bytes, 4088, &checksum);
+    known(&bytes);
     Block { bytes }
 }
 
@@ -41,6 +43,11 @@ fn put(bytes: &mut [u8; 4096], at: usize, part: &[u8])
 {
     bytes[at..at + part.len()].copy_from_slice(part);
 }
+
+// What the type says, for proofs.
+fn known(bytes: &[u8])
+    ensures { IsTrue (list_all (λ b. nat_lt b 256) bytes.now) }
+{}
 
 // The first 8 bytes of SHA-256 of the bytes before the checksum.
 fn checksum_of(bytes: &[u8; 4096]) -> [u8; 8]
