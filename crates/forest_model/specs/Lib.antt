@@ -9,3 +9,6 @@ pub mod Blocks
 pub mod Step
 pub mod Session
 pub mod Run
+pub mod Covers
+pub mod Notes
+pub mod History

@@ -16,6 +16,7 @@
 mod bytes;
 mod call;
 mod documents;
+mod held;
 mod line;
 mod refusal;
 mod sequence;
@@ -27,6 +28,7 @@ mod tests;
 pub use bytes::Bytes;
 pub use call::{Call, Event, Found, Info, Item, Items, Limits, Numbers, Placed, Reply, StoreRef};
 pub use documents::{Doc, DocKey, Documents};
+pub use held::{Deed, Held, Notes, Point, Section};
 pub use line::{Line, Row, Rows, Said, Told, Verb};
 pub use refusal::Refusal;
 pub use sequence::Sequence;
