@@ -3,18 +3,32 @@ use Rattle.std.proofs.Common.{◌≡◌, ◌≢◌, ◌⊎◌, inl, inr, ℕ, �
 use Rattle.block_host.specs.declared.block.Block.{Block}
 use Rattle.forest_model.specs.declared.refusal.Refusal.{Refusal}
 use Rattle.forest_model.specs.declared.stored.Rec.{Rec}
-use Rattle.doc_stream.specs.Causes.{BreaksRecord, Reason}
+use Rattle.doc_stream.specs.Causes.{BreaksRecord, Cause, Missing, Reason, longest_run}
+use Rattle.doc_stream.specs.Broken.{BreaksAddress, BreaksAt}
 use Rattle.doc_stream.specs.OpenBlock.{OpenBlock}
 use Rattle.doc_stream.specs.Reading.{RecordAt, AreHeld, IsInside, from_offset}
 use Rattle.forest_model.specs.Records.{record_bytes, is_record}
 use Rattle.doc_stream.specs.Runs.{Piece, Spreads}
 use Rattle.doc_stream.specs.Scans.{StartsFrom}
-use Rattle.doc_stream.specs.Steps.{Asked, Place, in_hand, Shows, Following, SameBelow, Stretch, Unsealed, TakesRecord, StopsRecord}
+use Rattle.doc_stream.specs.Shown.{Asked, Shows, Unsealed, AreSealed, open_file}
+use Rattle.doc_stream.specs.Steps.{Place, in_hand, Following, SameBelow, Stretch, TakesRecord, StopsRecord, IsNear}
 use Rattle.doc_stream.proofs.Blocks.{same_less, same_back, shows_other, shows_once, held_shown, shows_held}
+use Rattle.doc_stream.proofs.Before.{address_there}
 use Rattle.doc_stream.proofs.Steps.{spreads_none}
 
 -- what is asked has an open block
-module _ (asked : Asked) (tail : OpenBlock) (open_is : asked.tail ≡ Some tail) (file : List Block) (address : ℕ) where
+module _ (asked : Asked) (tail : OpenBlock) (open_is : asked.tail ≡ Some tail) (end_is : asked.end ≡ 0) (file : List Block) (address : ℕ) where
+  asked_is : asked ≡ open_file asked.revision tail
+  asked_is =
+      let make : Option OpenBlock → ℕ → Asked = λ t e. record { revision = asked.revision; tail = t; end = e } in
+      ap (λ (t : Option OpenBlock). make t asked.end) open_is ∙ ap (λ (e : ℕ). make (Some tail) e) end_is
+
+  of_open : (block : ℕ) → BreaksAddress asked file address block → BreaksAddress (open_file asked.revision tail) file address block
+  of_open block breaks = subst (λ (a : Asked). BreaksAddress a file address block) asked_is breaks
+
+  none_before : AreSealed (open_file asked.revision tail) file (address / 4096) (address / 4096)
+  none_before at ge lt = absurd (omega arith)
+
   held : (other : List Block) (at : ℕ) (pieces : List Piece) → Following asked.revision asked.tail asked.end other at pieces → AreHeld asked.revision other tail at pieces
   held other at pieces f = subst (λ (t : Option OpenBlock). Following asked.revision t asked.end other at pieces) open_is f
 
@@ -43,6 +57,9 @@ module _ (asked : Asked) (tail : OpenBlock) (open_is : asked.tail ≡ Some tail)
   pub breaks_unsealed : Unsealed asked file (address / 4096) → BreaksRecord asked.revision file tail address (address / 4096)
   breaks_unsealed unsealed = record {
     asked = omega arith;
+    within = omega arith;
+    sealed = none_before;
+    breaks = of_open (address / 4096) (inl (refl, unsealed));
     broken = λ other r same at.
         let first = first_of other r at in
         unsealed 1 first.0 (shows_other asked.revision asked.tail other file (address / 4096 + 1) (address / 4096) 1 first.0 (omega arith) (same_back (address / 4096 + 1) file other same) first.2);
@@ -52,6 +69,9 @@ module _ (asked : Asked) (tail : OpenBlock) (open_is : asked.tail ≡ Some tail)
   pub breaks_other : (kind : ℕ) (payload : List ℕ) → kind ≢ 1 → Shows asked.revision asked.tail file (address / 4096) kind payload → BreaksRecord asked.revision file tail address (address / 4096)
   breaks_other kind payload not shows = record {
     asked = omega arith;
+    within = omega arith;
+    sealed = none_before;
+    breaks = of_open (address / 4096) (inr (inl (refl, (kind, payload, inl not, shows))));
     broken = λ other r same at.
         let first = first_of other r at in
         let there = shows_other asked.revision asked.tail file other (address / 4096 + 1) (address / 4096) kind payload (omega arith) same shows in
@@ -62,6 +82,9 @@ module _ (asked : Asked) (tail : OpenBlock) (open_is : asked.tail ≡ Some tail)
   pub breaks_short : (payload : List ℕ) → length payload ≤ address % 4096 → Shows asked.revision asked.tail file (address / 4096) 1 payload → BreaksRecord asked.revision file tail address (address / 4096)
   breaks_short payload short shows = record {
     asked = omega arith;
+    within = omega arith;
+    sealed = none_before;
+    breaks = of_open (address / 4096) (inr (inl (refl, (1, payload, inr short, shows))));
     broken = λ other r same at.
         let first = first_of other r at in
         let there = shows_other asked.revision asked.tail file other (address / 4096 + 1) (address / 4096) 1 payload (omega arith) same shows in
@@ -112,16 +135,26 @@ module _ (asked : Asked) (tail : OpenBlock) (open_is : asked.tail ≡ Some tail)
         )
 
     pub starts_from : StartsFrom asked file tail address place
-    starts_from = record { next = next; on = starts_on; back = starts_back }
+    starts_from = record {
+      next = next;
+      breaks = λ block breaks. inr (inr (payload, inside, shows, subst (λ (p : Piece). BreaksAt asked file p block) hand_is breaks));
+      on = starts_on;
+      back = starts_back;
+    }
 
   -- the record is read from there
   module _ (place : Place) (starts : StartsFrom asked file tail address place) where
-    pub breaks_record : (block : ℕ) → StopsRecord asked file place block → BreaksRecord asked.revision file tail address block
-    breaks_record block stops =
+    pub breaks_record : (block : ℕ) → place.offset < 4064 → IsNear asked place 1052355 block → StopsRecord asked file place block → BreaksRecord asked.revision file tail address block
+    breaks_record block offset near stops =
         let reached = stops.reached in
+        let close = near.near in
         let next = starts.next in
+        let at = of_open block (starts.breaks block stops.breaks) in
         record {
           asked = omega arith;
+          within = omega arith;
+          sealed = address_there (open_file asked.revision tail) file address block at;
+          breaks = at;
           broken = λ other r same at.
               let s = starts.back other r (same_less place.next (block + 1) file other reached same) at in
               stops.broken other r s.0 same at.is_record s.1;
@@ -137,6 +170,41 @@ module _ (asked : Asked) (tail : OpenBlock) (open_is : asked.tail ≡ Some tail)
       only_at r at =
           let s = starts.back file r refl at in
           (takes.back file r s.0 refl at.is_record s.1).0
+
+-- what a reader may name at an address lies in what a record can reach
+pub near_address : (asked : Asked) (address : ℕ) (place : Place) (block : ℕ) → place.next ≡ address / 4096 + 1 → place.offset < 4064 → IsNear asked place 1052355 block → (address / 4096 ≤ block) × (block ≤ address / 4096 + longest_run)
+near_address asked address place block next offset near =
+    let reached = near.reached in
+    let close = near.near in
+    (omega arith, omega arith)
+
+-- the block that a cause names
+pub cause_asked : (tells : Bool) (revision : ℕ) (Lies Breaks : ℕ → Type 0) (before after : ℕ) (why : Refusal) (file block : ℕ) → why ≡ Refusal.Damaged file block → Cause tells revision Lies Breaks before after why → (file ≡ revision) × Lies block
+cause_asked tells revision Lies Breaks before after why file block is (inl memory) =
+    let both : Refusal.NoMemory ≡ Refusal.Damaged file block = sym memory ∙ is in
+    absurd cc
+cause_asked tells revision Lies Breaks before after why file block is (inr (inl fault)) =
+    let both : Refusal.DiskFault ≡ Refusal.Damaged file block = sym fault.0 ∙ is in
+    absurd cc
+cause_asked tells revision Lies Breaks before after why file block is (inr (inr damaged)) =
+    let both : Refusal.Damaged revision damaged.0 ≡ Refusal.Damaged file block = sym damaged.1 ∙ is in
+    let same_file : revision ≡ file = cc in
+    let same : damaged.0 ≡ block = cc in
+    (sym same_file, subst (λ (n : ℕ). Lies n) same damaged.2)
+
+pub missing_asked : (tells : Bool) (revision at : ℕ) (Gone : Type 0) (before after : ℕ) (why : Refusal) (file block : ℕ) → why ≡ Refusal.Damaged file block → Missing tells revision at Gone before after why → (file ≡ revision) × (block ≡ at)
+missing_asked tells revision at Gone before after why file block is (inl fault) =
+    let both : Refusal.DiskFault ≡ Refusal.Damaged file block = sym fault.0 ∙ is in
+    absurd cc
+missing_asked tells revision at Gone before after why file block is (inr damaged) =
+    let both : Refusal.Damaged revision at ≡ Refusal.Damaged file block = sym damaged.0 ∙ is in
+    let same_file : revision ≡ file = cc in
+    let same : at ≡ block = cc in
+    (sym same_file, sym same)
+
+pub missing_why : (tells : Bool) (revision at : ℕ) (Gone : Type 0) (before after : ℕ) (why : Refusal) → Missing tells revision at Gone before after why → (why ≡ Refusal.DiskFault) ⊎ (why ≡ Refusal.Damaged revision at)
+missing_why tells revision at Gone before after why (inl fault) = inl fault.0
+missing_why tells revision at Gone before after why (inr damaged) = inr damaged.0
 
 -- a refusal where nothing is broken
 pub refused : {T : Type 0} (tells : Bool) (revision : ℕ) (Breaks : ℕ → Type 0) (before after : ℕ) (why : Refusal) (result : Result T Refusal) (x : T) → result ≡ Err why → IsTrue tells → ((block : ℕ) → Breaks block → ⊥)

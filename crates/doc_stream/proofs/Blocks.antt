@@ -9,7 +9,8 @@ use Rattle.doc_stream.specs.OpenBlock.{OpenBlock}
 use Rattle.forest_model.specs.Records.{is_empty}
 use Rattle.doc_stream.specs.Runs.{Piece, RecordBlocks, Follows, left}
 use Rattle.doc_stream.specs.Reading.{Holds, AreHeld}
-use Rattle.doc_stream.specs.Steps.{Stands, Shows, Following, IsWithin, SameBelow}
+use Rattle.doc_stream.specs.Shown.{Stands, Shows}
+use Rattle.doc_stream.specs.Steps.{Following, IsWithin, SameBelow}
 
 pub same_less : (m n : ℕ) (file other : List Block) → m ≤ n → SameBelow n file other → SameBelow m file other
 same_less m n file other le same = sym (take-take m n other le) ∙ ap (λ (b : List Block). take m b) same ∙ take-take m n file le

@@ -1,8 +1,9 @@
 -- A place that is filled from the front.
-use Rattle.std.proofs.Common.{◌≡◌, ℕ, ◌+◌, ◌≤◌, ◌<◌, List, ◌++◌, length, take, drop, sym, ◌∙◌, ap, subst, arith, append_assoc, length-append}
+use Rattle.std.proofs.Common.{◌≡◌, ℕ, ◌+◌, ◌-◌, ◌≤◌, ◌<◌, List, ◌++◌, length, take, drop, sym, ◌∙◌, ap, subst, arith, append_assoc, length-append}
 use Rattle.std.proofs.lemmas.List.{take-append-drop, length-take-le, take_at}
 use Rattle.block_host.specs.declared.block.Block.{Block}
-use Rattle.doc_stream.specs.Steps.{Asked, Place, IsWithin, Moves, Takes, Turns, Stops}
+use Rattle.doc_stream.specs.Shown.{Asked}
+use Rattle.doc_stream.specs.Steps.{Place, IsNear, IsWithin, Moves, Takes, Turns, Stops}
 use Rattle.doc_stream.proofs.Steps.{takes_hand, takes_both, turn_takes, stops_behind, stops_more}
 
 pub fill_front : (out part rest : List ℕ) (filled n : ℕ) → filled ≤ length out → n ≤ length part → take (filled + n) (take filled out ++ (part ++ rest)) ≡ take filled out ++ take n part
@@ -24,9 +25,9 @@ fill_more asked file start old mid new out part rest all filled n within some fi
     subst (λ (l : List ℕ). Takes asked file start new l) (sym front)
     (takes_both asked file start old new (take filled out) (take n part) so_far (turn_takes asked file old mid new (take n part) (omega arith) turns hand))
 
-pub moved_more : (asked : Asked) (start old mid new : Place) (out : List ℕ) (filled n : ℕ) → 1 ≤ n → Moves asked start old filled filled → Moves asked old mid 1 0 → new.next ≡ mid.next → mid.bytes ≡ out ++ new.bytes → length out ≡ n
+pub moved_more : (asked : Asked) (start old mid new : Place) (out : List ℕ) (filled n : ℕ) → 1 ≤ n → Moves asked start old filled filled → Moves asked old mid 1 0 → new.next ≡ mid.next → new.offset ≡ mid.offset + n → mid.bytes ≡ out ++ new.bytes → length out ≡ n
     → Moves asked start new (filled + n) (filled + n)
-moved_more asked start old mid new out filled n some so_far turn next split long =
+moved_more asked start old mid new out filled n some so_far turn next offset split long =
     let lengths : length mid.bytes ≡ length out + length new.bytes = ap length split ∙ length-append out new.bytes in
     let so_far_later = so_far.later in
     let so_far_near = so_far.near in
@@ -34,11 +35,14 @@ moved_more asked start old mid new out filled n some so_far turn next split long
     let turn_later = turn.later in
     let turn_near = turn.near in
     let turn_further = turn.further in
+    let so_far_exact = so_far.exact in
+    let turn_exact = turn.exact in
     record {
       later = omega arith;
       near = omega arith;
       within = subst (λ (k : ℕ). IsWithin asked.tail asked.end k) (sym next) turn.within;
       further = omega arith;
+      exact = omega arith;
     }
 
 pub stops_filling : (asked : Asked) (file : List Block) (start old : Place) (out : List ℕ) (filled block : ℕ) → filled < length out → Takes asked file start old (take filled out) → Stops asked file old 1 block → Stops asked file start (length out) block
@@ -62,4 +66,35 @@ moved_both asked a b c n m one two =
     let two_later = two.later in
     let two_near = two.near in
     let two_further = two.further in
-    record { later = omega arith; near = omega arith; within = two.within; further = omega arith }
+    let one_exact = one.exact in
+    let two_exact = two.exact in
+    record { later = omega arith; near = omega arith; within = two.within; further = omega arith; exact = omega arith }
+
+-- a block near a place that lies further on is near the earlier one
+pub near_after : (asked : Asked) (a b : Place) (n count all block : ℕ) → Moves asked a b n n → n + count ≤ all → IsNear asked b count block → IsNear asked a all block
+near_after asked a b n count all block moved le near =
+    let later = moved.later in
+    let exact = moved.exact in
+    let reached = near.reached in
+    let close = near.near in
+    record { reached = omega arith; within = near.within; near = omega arith }
+
+-- the block in hand, of which something was taken or all is left, is near
+pub near_here : (asked : Asked) (a b : Place) (n all : ℕ) → 1 ≤ b.next → Moves asked a b n n → n ≤ all → IsNear asked a all (b.next - 1)
+near_here asked a b n all first moved le =
+    let later = moved.later in
+    let exact = moved.exact in
+    let block : b.next ≡ b.next - 1 + 1 = omega arith in
+    record { reached = omega arith; within = subst (λ (k : ℕ). IsWithin asked.tail asked.end k) block moved.within; near = omega arith }
+
+-- the blocks that a reader with nothing in hand may name: the one in hand, and where that is full the next one
+pub near_back : (asked : Asked) (place : Place) → 1 ≤ place.next → IsWithin asked.tail asked.end place.next → IsNear asked place 1 (place.next - 1)
+near_back asked place first within =
+    let block : place.next ≡ place.next - 1 + 1 = omega arith in
+    record { reached = omega arith; within = subst (λ (k : ℕ). IsWithin asked.tail asked.end k) block within; near = omega arith }
+
+pub near_on : (asked : Asked) (place : Place) → place.offset ≡ 4064 → IsWithin asked.tail asked.end (place.next + 1) → IsNear asked place 1 place.next
+near_on asked place full within = record { reached = omega arith; within = within; near = omega arith }
+
+pub near_more : (asked : Asked) (place : Place) (count all block : ℕ) → count ≤ all → IsNear asked place count block → IsNear asked place all block
+near_more asked place count all block le near = let close = near.near in record { reached = near.reached; within = near.within; near = omega arith }

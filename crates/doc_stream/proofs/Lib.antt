@@ -1,5 +1,7 @@
 mod Puts
 mod Blocks
+mod Before
+mod Ahead
 mod Steps
 mod Loads
 mod Fills

@@ -7,9 +7,13 @@ use Rattle.doc_stream.specs.Causes.{BreaksRecords}
 use Rattle.doc_stream.specs.OpenBlock.{OpenBlock, address_of}
 use Rattle.forest_model.specs.Records.{record_bytes, is_record}
 use Rattle.doc_stream.specs.Runs.{Piece, RecordBlocks, Spreads, AreRecords, StartsAt, RecordsOf, left}
-use Rattle.doc_stream.specs.Scans.{RestOf, Scans, BreaksRest}
-use Rattle.doc_stream.specs.Steps.{Asked, Place, in_hand, Stands, Shows, Following, IsWithin, SameBelow, Stretch, Loads, Unsealed, TakesRecord, StopsRecord}
+use Rattle.doc_stream.specs.Scans.{IsAhead, RestOf, Scans, BreaksRest}
+use Rattle.doc_stream.specs.Broken.{BreaksAt, BreaksRange}
+use Rattle.doc_stream.specs.Shown.{range_of, Asked, Stands, Shows, Unsealed}
+use Rattle.doc_stream.specs.Steps.{Place, in_hand, Following, IsNear, IsWithin, SameBelow, Stretch, Loads, TakesRecord, StopsRecord}
 use Rattle.doc_stream.proofs.Blocks.{same_less, same_back, stands_other, some_or_none, kept, passed, left_left, front, pass_on, pass_back, following_on, front_back}
+use Rattle.doc_stream.proofs.Ahead.{Lifts, into, over_record, past, precede_same, range_lifted}
+use Rattle.doc_stream.proofs.Before.{last_block, range_there}
 use Rattle.doc_stream.proofs.Steps.{spreads_none}
 
 -- what pieces with no bytes lie between tells nothing
@@ -26,6 +30,34 @@ pub ahead : (start old new left : ℕ) → start ≤ old → (1 ≤ left → sta
 ahead start old new left behind ready later (inl lt) = omega arith
 ahead start old new left behind ready later (inr some) = let higher : start < old = ready some in omega arith
 
+-- what a reader may name of a range lies in it
+pub low_ahead : (asked : Asked) (start : ℕ) (now : Place) (block : ℕ) → start ≤ now.next → (1 ≤ length now.bytes → start < now.next) → IsAhead asked now block → (start ≤ block) × (block < asked.end)
+low_ahead asked start now block later ready ahead =
+    let within = ahead.within in
+    let behind = ahead.behind in
+    elim ahead.reached [
+      | inl some ↦ (let higher = ready some in (omega arith, omega arith))
+      | inr le ↦ (omega arith, omega arith)
+    ]
+
+pub ahead_near : (asked : Asked) → asked.tail ≡ None → (place : Place) (block : ℕ) → 1 ≤ length place.bytes → IsNear asked place 1052355 block → IsAhead asked place block
+ahead_near asked none place block some near = record {
+  reached = inl some;
+  behind = near.reached;
+  within = subst (λ (t : Option OpenBlock). IsWithin t asked.end (block + 1)) none near.within;
+}
+
+-- the first block is there, once a step has been made from the start
+pub shown_first : (asked : Asked) (file file' : List Block) (start old : Place) → length start.bytes ≡ 0 → file' ≡ file → old ≡ start
+    → (length old.bytes ≡ 0 → (kind : ℕ) × (payload : List ℕ) × Shows asked.revision asked.tail file' old.next kind payload) → (kind : ℕ) × (payload : List ℕ) × Shows asked.revision asked.tail file start.next kind payload
+shown_first asked file file' start old none same is shown =
+    let empty : length old.bytes ≡ 0 = ap (λ (p : Place). length p.bytes) is ∙ none in
+    let there = shown empty in (
+      there.0,
+      there.1,
+      subst (λ (f : List Block). Shows asked.revision asked.tail f start.next there.0 there.1) same (subst (λ (p : Place). Shows asked.revision asked.tail file' p.next there.0 there.1) is there.2),
+    )
+
 -- a range, with no open block
 module _ (asked : Asked) (none : asked.tail ≡ None) (file : List Block) where
   pub ranged : (other : List Block) (at : ℕ) (pieces : List Piece) → Following asked.revision asked.tail asked.end other at pieces → Following asked.revision None asked.end other at pieces
@@ -33,6 +65,9 @@ module _ (asked : Asked) (none : asked.tail ≡ None) (file : List Block) where
 
   pub unranged : (other : List Block) (at : ℕ) (pieces : List Piece) → Following asked.revision None asked.end other at pieces → Following asked.revision asked.tail asked.end other at pieces
   unranged other at pieces f = subst (λ (t : Option OpenBlock). Following asked.revision t asked.end other at pieces) (sym none) f
+
+  asked_is : asked ≡ range_of asked.revision asked.end
+  asked_is = ap (λ (t : Option OpenBlock). record { revision = asked.revision; tail = t; end = asked.end }) none
 
   stood : (at kind : ℕ) (payload : List ℕ) → Shows asked.revision asked.tail file at kind payload → Stands asked.revision file at kind payload
   stood at kind payload s = subst (λ (t : Option OpenBlock). Shows asked.revision t file at kind payload) none s
@@ -45,6 +80,7 @@ module _ (asked : Asked) (none : asked.tail ≡ None) (file : List Block) where
     later = omega arith;
     on = λ other rest same r. r;
     back = λ other records same r. (records, refl, r);
+    breaks = λ block b. b;
   }
 
   pub scans_both : (a b c : Place) (first second : List (ℕ × Rec)) → Scans asked file a b first → Scans asked file b c second → Scans asked file a c (first ++ second)
@@ -60,6 +96,7 @@ module _ (asked : Asked) (none : asked.tail ≡ None) (file : List Block) where
             let front = one.back other records (same_less b.next c.next file other two_later same) r in
             let further = two.back other front.0 same front.2 in
             (further.0, front.1 ∙ ap (λ (l : List (ℕ × Rec)). first ++ l) further.1 ∙ sym (append_assoc first second further.0), further.2);
+        breaks = λ block b. one.breaks block (two.breaks block b);
       }
 
   -- a block that is passed over
@@ -70,6 +107,15 @@ module _ (asked : Asked) (none : asked.tail ≡ None) (file : List Block) where
 
       same_left : (pieces : List Piece) → left (in_hand new ∷ pieces) ≡ left (in_hand old ∷ pieces)
       same_left pieces = passed (in_hand new) pieces empty_too ∙ sym (passed (in_hand old) pieces empty)
+
+      lifted : (kind ≢ 1) ⊎ ((kind ≡ 1) × (payload ≡ [])) → Lifts asked.revision file (in_hand new ∷ []) new.next (in_hand old ∷ []) old.next 1
+      lifted (inl other) = subst (λ (n : ℕ). Lifts asked.revision file (in_hand new ∷ []) n (in_hand old ∷ []) old.next 1) (sym next_is)
+          (past asked.revision file old.next kind payload stands (in_hand old ∷ []) (in_hand new ∷ []) other (λ pieces. same_left pieces))
+      lifted (inr none_there) =
+          let p : Piece = record { block = old.next; offset = 0; bytes = payload } in
+          subst (λ (n : ℕ). Lifts asked.revision file (in_hand new ∷ []) n (in_hand old ∷ []) old.next 1) (sym next_is)
+          (into asked.revision file old.next kind payload stands (in_hand old ∷ []) (in_hand new ∷ []) none_there.0
+          (λ pieces. same_left pieces ∙ passed (in_hand old) pieces empty ∙ sym (passed p pieces none_there.1) ∙ sym (passed (in_hand old) (p ∷ pieces) empty)))
 
       pub scans_past : Scans asked file old new []
       scans_past = record {
@@ -90,6 +136,7 @@ module _ (asked : Asked) (none : asked.tail ≡ None) (file : List Block) where
             are = are_same (in_hand old ∷ r.pieces) (in_hand new ∷ r.pieces) records (sym (same_left r.pieces)) r.are;
           },
         );
+        breaks = range_lifted asked.revision asked.end file (in_hand new ∷ []) new.next (in_hand old ∷ []) old.next 1 next_is (lifted why);
       }
 
     -- a record block with bytes
@@ -126,8 +173,17 @@ module _ (asked : Asked) (none : asked.tail ≡ None) (file : List Block) where
             are = are_same (in_hand old ∷ r.pieces) (in_hand new ∷ front.0) records (ap (λ (ps : List Piece). left (in_hand old ∷ ps)) front.1 ∙ sym (taken_left front.0)) r.are;
           }
 
+      lifted_into : Lifts asked.revision file (in_hand new ∷ []) new.next (in_hand old ∷ []) old.next 1
+      lifted_into = subst (λ (n : ℕ). Lifts asked.revision file (in_hand new ∷ []) n (in_hand old ∷ []) old.next 1) (sym next_is)
+          (into asked.revision file old.next 1 new.bytes stands (in_hand old ∷ []) (in_hand new ∷ []) refl (λ pieces. taken_left pieces))
+
       pub scans_into : Scans asked file old new []
-      scans_into = record { later = omega arith; on = load_on; back = λ other records same r. (records, refl, load_back other records same r) }
+      scans_into = record {
+        later = omega arith;
+        on = load_on;
+        back = λ other records same r. (records, refl, load_back other records same r);
+        breaks = range_lifted asked.revision asked.end file (in_hand new ∷ []) new.next (in_hand old ∷ []) old.next 1 next_is lifted_into;
+      }
 
     loaded : (test : Bool) → Loads asked file old.next new test → (new.bytes ≡ []) ⊎ (1 ≤ length new.bytes) → Scans asked file old new []
     loaded true loads (inl none_left) = scans_past none_left 1 new.bytes (stood old.next 1 new.bytes loads.1) (inr (refl, none_left))
@@ -138,11 +194,17 @@ module _ (asked : Asked) (none : asked.tail ≡ None) (file : List Block) where
     scans_loaded test loads = loaded test loads (some_or_none new.bytes)
 
   -- the next block isn't sealed
-  pub breaks_unsealed : (place : Place) → place.next < asked.end → Unsealed asked file place.next → BreaksRest asked file place place.next
-  breaks_unsealed place within unsealed = record {
+  pub breaks_unsealed : (place : Place) → place.bytes ≡ [] → place.next < asked.end → Unsealed asked file place.next → BreaksRest asked file place place.next
+  breaks_unsealed place empty within unsealed = record {
     reached = inr (omega arith);
     behind = omega arith;
     within = omega arith;
+    breaks = inl (
+      0,
+      omega arith,
+      record { pieces = []; blocks = refl; records = []; precede = passed (in_hand place) [] empty },
+      subst (λ (a : Asked). Unsealed a file place.next) asked_is unsealed,
+    );
     broken = λ other records same r.
         let here = front asked.revision asked.end other place.next r.pieces (ranged other place.next r.pieces r.following) within in
         let stands = stands_other asked.revision other file (place.next + 1) place.next here.0 here.1 (omega arith) (same_back (place.next + 1) file other same) here.2.stands in
@@ -150,7 +212,7 @@ module _ (asked : Asked) (none : asked.tail ≡ None) (file : List Block) where
   }
 
   -- a record
-  module _ (old : Place) (some : 1 ≤ length old.bytes) where
+  module _ (old : Place) (first : 1 ≤ old.next) (some : 1 ≤ length old.bytes) where
     hand_left : (other : List Block) (pieces : List Piece) → Following asked.revision asked.tail asked.end other old.next pieces → left (in_hand old ∷ pieces) ≡ in_hand old ∷ pieces
     hand_left other pieces f = kept (in_hand old) pieces some ∙ ap (λ (ps : List Piece). in_hand old ∷ ps) (left_once other old.next pieces (ranged other old.next pieces f))
 
@@ -199,23 +261,44 @@ module _ (asked : Asked) (none : asked.tail ≡ None) (file : List Block) where
             );
           };
       back = λ other records same s.
-          let first = stretched other records s in
-          let there = takes.back other first.0 first.2 same first.4 first.5 in
-          let behind = none_behind (in_hand new) there.1.pieces first.2 there.1.spreads in (
-            first.1,
-            first.3 ∙ ap (λ (r : Rec). (address_of (old.next - 1) old.offset, r) ∷ first.1) there.0,
-            record { pieces = there.1.pieces; following = there.1.following; are = subst (λ (ps : List Piece). AreRecords ps first.1) behind first.6 },
+          let one = stretched other records s in
+          let there = takes.back other one.0 one.2 same one.4 one.5 in
+          let behind = none_behind (in_hand new) there.1.pieces one.2 there.1.spreads in (
+            one.1,
+            one.3 ∙ ap (λ (r : Rec). (address_of (old.next - 1) old.offset, r) ∷ one.1) there.0,
+            record { pieces = there.1.pieces; following = there.1.following; are = subst (λ (ps : List Piece). AreRecords ps one.1) behind one.6 },
           );
+      breaks = range_lifted asked.revision asked.end file (in_hand new ∷ []) new.next (in_hand old ∷ []) old.next (length takes.begins.more) (counted new rec takes) (over new rec is takes);
     }
+      where
+        counted : (new : Place) (rec : Rec) → (takes : TakesRecord asked file old new rec) → new.next ≡ old.next + length takes.begins.more
+        counted new rec takes =
+            let later = takes.later in
+            let at = last_block asked file (record_bytes rec) (in_hand old) (in_hand new) takes.begins.more takes.begins.blocks takes.begins.spreads in
+            omega arith
+
+        over : (new : Place) (rec : Rec) → IsTrue (is_record rec) → (takes : TakesRecord asked file old new rec) → Lifts asked.revision file (in_hand new ∷ []) new.next (in_hand old ∷ []) old.next (length takes.begins.more)
+        over new rec is takes =
+            let later = takes.later in
+            let start : old.next - 1 + 1 ≡ old.next = omega arith in
+            subst (λ (n : ℕ). Lifts asked.revision file (in_hand new ∷ []) new.next (in_hand old ∷ []) n (length takes.begins.more)) start
+            (over_record asked file (in_hand old) (in_hand new) rec new.next none some is takes.begins (omega arith))
 
     pub breaks_record : (block : ℕ) → StopsRecord asked file old block → BreaksRest asked file old block
     breaks_record block stops = record {
       reached = inl some;
       behind = stops.reached;
       within = subst (λ (t : Option OpenBlock). IsWithin t asked.end (block + 1)) none stops.within;
+      breaks = inr (
+        0,
+        in_hand old,
+        omega arith,
+        record { pieces = []; blocks = refl; records = []; precede = kept (in_hand old) [] some },
+        subst (λ (a : Asked). BreaksAt a file (in_hand old) block) asked_is stops.breaks,
+      );
       broken = λ other records same s.
-          let first = stretched other records s in
-          stops.broken other first.0 first.2 same first.4 first.5;
+          let one = stretched other records s in
+          stops.broken other one.0 one.2 same one.4 one.5;
     }
 
   -- the range's start
@@ -240,14 +323,28 @@ module _ (asked : Asked) (none : asked.tail ≡ None) (file : List Block) where
     breaks_records now done block later ready scans breaks =
         let low : start.next ≤ block = low_of now block later ready breaks.reached breaks.behind in
         let within = breaks.within in
+        let end : asked.end ≡ start.next + (asked.end - start.next) = omega arith in
+        let at : BreaksRange asked.revision (start.next + (asked.end - start.next)) file [] start.next block = subst (λ (n : ℕ). BreaksRange asked.revision n file [] start.next block) end (range_lifted asked.revision asked.end file (in_hand start ∷ []) start.next [] start.next 0 (omega arith) nothing_in_hand block (scans.breaks block breaks.breaks)) in
         record {
           asked = low;
           within = omega arith;
+          sealed = range_there asked.revision (start.next + (asked.end - start.next)) file [] start.next block at;
+          breaks = at;
           broken = λ other records same of.
               let back = scans.back other records (same_less now.next (block + 1) file other breaks.behind same) (rest_start other records of) in
               breaks.broken other back.0 same back.2;
         }
       where
+        nothing_in_hand : Lifts asked.revision file (in_hand start ∷ []) start.next [] start.next 0
+        nothing_in_hand count all behind is leads =
+            let counted : count ≡ all = omega arith in
+            record {
+              pieces = leads.pieces;
+              blocks = subst (λ (n : ℕ). RecordBlocks asked.revision file start.next n leads.pieces) counted leads.blocks;
+              records = leads.records;
+              precede = precede_same (in_hand start ∷ leads.pieces) leads.pieces leads.records behind (passed (in_hand start) leads.pieces empty) leads.precede;
+            }
+
         low_of : (now : Place) (block : ℕ) → start.next ≤ now.next → (1 ≤ length now.bytes → start.next < now.next) → (1 ≤ length now.bytes) ⊎ (now.next ≤ block) → now.next ≤ block + 1 → start.next ≤ block
         low_of now block later ready (inl some) behind = let higher : start.next < now.next = ready some in omega arith
         low_of now block later ready (inr le) behind = omega arith

@@ -1,9 +1,12 @@
 -- Steps of a reader, and what each tells of every way to go on.
-use Rattle.std.proofs.Common.{◌≡◌, ◌≢◌, inl, inr, ℕ, ◌+◌, ◌-◌, ◌<◌, ◌≤◌, List, [], ◌∷◌, ◌++◌, length, refl, sym, ◌∙◌, ap, subst, arith, append_assoc, length-append, add-zero}
+use Rattle.std.proofs.Common.{◌≡◌, ◌≢◌, inl, inr, ℕ, ◌+◌, ◌-◌, ◌<◌, ◌≤◌, List, [], ◌∷◌, ◌++◌, length, Option, Some, None, refl, sym, ◌∙◌, ap, subst, arith, append_assoc, length-append, add-zero}
 use Rattle.block_host.specs.declared.block.Block.{Block}
+use Rattle.doc_stream.specs.OpenBlock.{OpenBlock}
 use Rattle.doc_stream.specs.Runs.{Piece, Follows, Spreads}
-use Rattle.doc_stream.specs.Steps.{Asked, Place, in_hand, Shows, Following, IsWithin, SameBelow, Stretch, Unsealed, Turns, Takes, Stops}
-use Rattle.doc_stream.proofs.Blocks.{same_less, same_back, shows_other, shows_once, Next, next_there, following_on}
+use Rattle.doc_stream.specs.Broken.{AreShown, Begins, EndsAt, Ends, IsLastAsked}
+use Rattle.doc_stream.specs.Shown.{Asked, Shows, Unsealed}
+use Rattle.doc_stream.specs.Steps.{Place, in_hand, Following, IsWithin, SameBelow, Stretch, Turns, Takes, Stops}
+use Rattle.doc_stream.proofs.Blocks.{lt_or_le, same_less, same_back, shows_other, shows_once, Next, next_there, following_on}
 
 nonempty : (bytes : List ℕ) → 1 ≤ length bytes → bytes ≢ []
 nonempty bytes some none =
@@ -14,6 +17,18 @@ nonempty bytes some none =
 pub spreads_none : (p : Piece) (pieces : List Piece) → Spreads [] (p ∷ pieces) (p ∷ pieces)
 spreads_none p pieces =
     inl (p.bytes, refl, ap (λ (n : ℕ). record { block = p.block; offset = n; bytes = p.bytes } ∷ pieces) (sym (add-zero p.offset)))
+
+-- nothing begins everywhere
+pub begins_none : (asked : Asked) (file : List Block) (p : Piece) → Begins asked file p [] p
+begins_none asked file p = record { more = []; blocks = tt; spreads = spreads_none p [] }
+
+-- the last block of a range
+last_asked : (tail : Option OpenBlock) (end next : ℕ) → 1 ≤ next → IsWithin tail end next → (IsWithin tail end (next + 1) → ⊥) → IsLastAsked tail end (next - 1)
+last_asked None end next first within never = elim (lt_or_le next end) [
+  | inl lt ↦ absurd (never (omega arith))
+  | inr le ↦ omega arith
+]
+last_asked (Some tail) end next first within never = absurd (never tt)
 
 -- a place at which no bytes are left of the block in hand
 module _ (asked : Asked) (file : List Block) (place : Place) (none : place.bytes ≡ []) where
@@ -30,13 +45,14 @@ module _ (asked : Asked) (file : List Block) (place : Place) (none : place.bytes
   ]
 
   -- a block that doesn't let them go on
-  stops_if : (block : ℕ) → place.next ≤ block + 1 → IsWithin asked.tail asked.end (block + 1)
+  stops_if : (block : ℕ) → place.next ≤ block + 1 → IsWithin asked.tail asked.end (block + 1) → Ends asked file (in_hand place) block
       → ((other : List Block) (pieces : List Piece) (bytes : List ℕ) (behind : List Piece) → SameBelow (block + 1) file other → 1 ≤ length bytes → place.offset ≡ 4064
       → Following asked.revision asked.tail asked.end other place.next pieces → Follows (in_hand place) pieces → Spreads bytes pieces behind → ⊥)
       → Stops asked file place 1 block
-  stops_if block reached within never = record {
+  stops_if block reached within why never = record {
     reached = reached;
     within = within;
+    fewer = ([], omega arith, record { last = in_hand place; begins = begins_none asked file (in_hand place); none = none; why = why });
     broken = λ other all behind same long s.
         let next = behind_none other all behind long s in
         never other s.pieces all behind same long next.0 s.following next.1 next.2;
@@ -46,7 +62,7 @@ module _ (asked : Asked) (file : List Block) (place : Place) (none : place.bytes
   pub stops_short : 1 ≤ place.next → IsWithin asked.tail asked.end place.next → place.offset < 4064 → Stops asked file place 1 (place.next - 1)
   stops_short first within short =
       let block : place.next ≡ place.next - 1 + 1 = omega arith in
-      stops_if (place.next - 1) (omega arith) (subst (λ (n : ℕ). IsWithin asked.tail asked.end n) block within)
+      stops_if (place.next - 1) (omega arith) (subst (λ (n : ℕ). IsWithin asked.tail asked.end n) block within) (inl (refl, short))
       (λ other pieces bytes behind same some full following follows spreads. absurd (omega arith))
 
   module _ (first : 1 ≤ place.next) where
@@ -60,21 +76,21 @@ module _ (asked : Asked) (file : List Block) (place : Place) (none : place.bytes
     pub stops_end : IsWithin asked.tail asked.end place.next → (IsWithin asked.tail asked.end (place.next + 1) → ⊥) → Stops asked file place 1 (place.next - 1)
     stops_end within end =
         let block : place.next ≡ place.next - 1 + 1 = omega arith in
-        stops_if (place.next - 1) (omega arith) (subst (λ (n : ℕ). IsWithin asked.tail asked.end n) block within)
+        stops_if (place.next - 1) (omega arith) (subst (λ (n : ℕ). IsWithin asked.tail asked.end n) block within) (inr (inl (refl, last_asked asked.tail asked.end place.next first within end)))
         (λ other pieces bytes behind same some full following follows spreads. end (next_of other pieces following follows).within)
 
     -- the next block is neither open nor sealed
-    pub stops_unsealed : IsWithin asked.tail asked.end (place.next + 1) → Unsealed asked file place.next → Stops asked file place 1 place.next
-    stops_unsealed within unsealed =
-        stops_if place.next (omega arith) within
+    pub stops_unsealed : place.offset ≡ 4064 → IsWithin asked.tail asked.end (place.next + 1) → Unsealed asked file place.next → Stops asked file place 1 place.next
+    stops_unsealed is_full within unsealed =
+        stops_if place.next (omega arith) within (inr (inr (inl (sym low, is_full, unsealed))))
         (λ other pieces bytes behind same some full following follows spreads.
         let next = next_of other pieces following follows in
         unsealed 1 next.payload (shows_other asked.revision asked.tail other file (place.next + 1) place.next 1 next.payload (omega arith) (same_back (place.next + 1) file other same) next.shows))
 
     -- it has no records
-    pub stops_other : (kind : ℕ) (payload : List ℕ) → IsWithin asked.tail asked.end (place.next + 1) → kind ≢ 1 → Shows asked.revision asked.tail file place.next kind payload → Stops asked file place 1 place.next
-    stops_other kind payload within not shows =
-        stops_if place.next (omega arith) within
+    pub stops_other : (kind : ℕ) (payload : List ℕ) → place.offset ≡ 4064 → IsWithin asked.tail asked.end (place.next + 1) → kind ≢ 1 → Shows asked.revision asked.tail file place.next kind payload → Stops asked file place 1 place.next
+    stops_other kind payload is_full within not shows =
+        stops_if place.next (omega arith) within (inr (inr (inr (sym low, is_full, (kind, payload, inl not, shows)))))
         (λ other pieces bytes behind same some full following follows spreads.
         let next = next_of other pieces following follows in
         let there = shows_other asked.revision asked.tail file other (place.next + 1) place.next kind payload (omega arith) same shows in
@@ -87,9 +103,9 @@ module _ (asked : Asked) (file : List Block) (place : Place) (none : place.bytes
     ]
 
     -- it has no bytes
-    pub stops_empty : (payload : List ℕ) → IsWithin asked.tail asked.end (place.next + 1) → payload ≡ [] → Shows asked.revision asked.tail file place.next 1 payload → Stops asked file place 1 place.next
-    stops_empty payload within empty shows =
-        stops_if place.next (omega arith) within
+    pub stops_empty : (payload : List ℕ) → place.offset ≡ 4064 → IsWithin asked.tail asked.end (place.next + 1) → payload ≡ [] → Shows asked.revision asked.tail file place.next 1 payload → Stops asked file place 1 place.next
+    stops_empty payload is_full within empty shows =
+        stops_if place.next (omega arith) within (inr (inr (inr (sym low, is_full, (1, payload, inr empty, shows)))))
         (λ other pieces bytes behind same some full following follows spreads.
         let next = next_of other pieces following follows in
         let there = shows_other asked.revision asked.tail file other (place.next + 1) place.next 1 payload (omega arith) same shows in
@@ -134,14 +150,32 @@ module _ (asked : Asked) (file : List Block) (place : Place) (none : place.bytes
             spreads = subst (λ (p : Piece). Spreads bytes (p ∷ next.rest) behind) (sym hand_is) at_new;
           }
 
+      turn_begins : (bytes : List ℕ) (last : Piece) → 1 ≤ length bytes → Begins asked file (in_hand new) bytes last → Begins asked file (in_hand place) bytes last
+      turn_begins bytes last long b =
+          let piece : Piece = record { block = place.next; offset = 0; bytes = new.bytes } in
+          let empty : length place.bytes ≡ 0 = ap length none in
+          let at : place.next ≡ place.next - 1 + 1 = omega arith in
+          let after : new.next - 1 + 1 ≡ place.next - 1 + 1 + 1 = omega arith in
+          record {
+            more = piece ∷ b.more;
+            blocks = (
+              at,
+              refl,
+              subst (λ (n : ℕ). Shows asked.revision asked.tail file n 1 new.bytes) at shows,
+              subst (λ (n : ℕ). AreShown asked file n b.more) after b.blocks,
+            );
+            spreads = inr (bytes, ap (λ (l : List ℕ). l ++ bytes) (sym none), nonempty bytes long, omega arith, at, subst (λ (p : Piece). Spreads bytes (p ∷ b.more) (last ∷ [])) hand_is b.spreads);
+          }
+
       pub turned : Turns asked file place new
-      turned = record { later = omega arith; on = turn_on; back = turn_back }
+      turned = record { later = omega arith; on = turn_on; back = turn_back; begins = turn_begins }
 
 pub turned_not : (asked : Asked) (file : List Block) (place : Place) → Turns asked file place place
 turned_not asked file place = record {
   later = omega arith;
   on = λ other bytes behind same long s. s;
   back = λ other bytes behind same long s. s;
+  begins = λ bytes last long b. b;
 }
 
 same_follows : (p q : Piece) (pieces : List Piece) → p.block ≡ q.block → Follows p pieces → Follows q pieces
@@ -216,6 +250,11 @@ module _ (asked : Asked) (file : List Block) (old new : Place) (bytes : List ℕ
             spreads = there.2;
           },
         );
+    begins = λ more last b. record {
+      more = b.more;
+      blocks = subst (λ (n : ℕ). AreShown asked file (n - 1 + 1) b.more) next_is b.blocks;
+      spreads = hand_on more b.more (last ∷ []) b.spreads;
+    };
   }
 
 pub takes_none : (asked : Asked) (file : List Block) (place : Place) → Takes asked file place place []
@@ -223,6 +262,7 @@ takes_none asked file place = record {
   later = omega arith;
   on = λ other more behind same s. s;
   back = λ other all behind same le s. (all, refl, s);
+  begins = λ more last b. b;
 }
 
 pub takes_both : (asked : Asked) (file : List Block) (a b c : Place) (first second : List ℕ) → Takes asked file a b first → Takes asked file b c second → Takes asked file a c (first ++ second)
@@ -240,6 +280,7 @@ takes_both asked file a b c first second one two =
           let all_is : length all ≡ length first + length front.0 = ap length front.1 ∙ length-append first front.0 in
           let further = two.back other front.0 behind same (omega arith) front.2 in
           (further.0, front.1 ∙ ap (λ (l : List ℕ). first ++ l) further.1 ∙ sym (append_assoc first second further.0), further.2);
+      begins = λ more last t. subst (λ (l : List ℕ). Begins asked file (in_hand a) l last) (sym (append_assoc first second more)) (one.begins (second ++ more) last (two.begins more last t));
     }
 
 pub turn_takes : (asked : Asked) (file : List Block) (a b c : Place) (bytes : List ℕ) → 1 ≤ length bytes → Turns asked file a b → Takes asked file b c bytes → Takes asked file a c bytes
@@ -253,15 +294,19 @@ turn_takes asked file a b c bytes some one two =
           one.on other (bytes ++ more) behind (same_less b.next c.next file other two_later same) (omega arith) (two.on other more behind same s);
       back = λ other all behind same le s.
           two.back other all behind same le (one.back other all behind (same_less b.next c.next file other two_later same) (omega arith) s);
+      begins = λ more last t. let lengths = length-append bytes more in one.begins (bytes ++ more) last (omega arith) (two.begins more last t);
     }
 
 pub stops_behind : (asked : Asked) (file : List Block) (a b : Place) (bytes : List ℕ) (count block : ℕ) → Takes asked file a b bytes → Stops asked file b count block → Stops asked file a (length bytes + count) block
 stops_behind asked file a b bytes count block takes stops =
     let later = takes.later in
     let reached = stops.reached in
+    let few = stops.fewer in
+    let long = few.1 in
     record {
       reached = omega arith;
       within = stops.within;
+      fewer = (bytes ++ few.0, omega (arith, length-append bytes few.0), record { last = few.2.last; begins = takes.begins few.0 few.2.last few.2.begins; none = few.2.none; why = few.2.why });
       broken = λ other all behind same le s.
           let front = takes.back other all behind (same_less b.next (block + 1) file other reached same) (omega arith) s in
           let all_is : length all ≡ length bytes + length front.0 = ap length front.1 ∙ length-append bytes front.0 in
@@ -272,5 +317,6 @@ pub stops_more : (asked : Asked) (file : List Block) (place : Place) (count more
 stops_more asked file place count more block le stops = record {
   reached = stops.reached;
   within = stops.within;
+  fewer = (let few = stops.fewer in let long = few.1 in (few.0, omega arith, few.2));
   broken = λ other all behind same long s. stops.broken other all behind same (omega arith) s;
 }

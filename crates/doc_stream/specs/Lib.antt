@@ -3,6 +3,8 @@ pub mod Bounds
 pub mod Runs
 pub mod Fold
 pub mod Reading
+pub mod Shown
+pub mod Broken
 pub mod Causes
 pub mod Steps
 pub mod Heads

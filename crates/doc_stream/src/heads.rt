@@ -23,6 +23,7 @@ pub(crate) struct Head {
 pub(crate) fn head_in(bytes: &[u8]) -> Option<Head>
     requires { length bytes.now ≡ 24 }
     ensures head { IfSome result (λ h. bytes.now ≡ head_with h.kind h.meta h.key h.body h.store h.seq) }
+    ensures allowed { IfSome result (λ h. IsTrue (allows h.kind h.meta h.key h.body h.seq)) }
     ensures small { IfSome result (λ h. (h.key ≤ 3500) × (h.meta ≤ 255) × (h.body ≤ 1048576)) }
     ensures numbers { IfSome result (λ h. (h.store < 2 ^ 64) × (h.seq < 2 ^ 64)) }
     ensures none { MatchOption result ((r : Rec) → IsTrue (records.is_record r) → bytes.now ≡ records.head_bytes r → ⊥) (λ h. Unit {0}) }

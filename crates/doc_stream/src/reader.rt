@@ -1,9 +1,10 @@
 ghost use Rattle.std.specs.Prelude.{◌≡◌, ◌≢◌, ◌+◌, ◌-◌, ◌^◌, ◌<◌, ◌≤◌, false, ℕ, List, [], length, take, drop, ◌++◌, IsTrue, IfOk, IfErr, OnOk, MatchOption, Some, Err};
 ghost use Rattle.forest_model.specs.declared.refusal.Refusal.TheVariants as Refusal;
-ghost use Rattle.doc_stream.specs.Causes.{Reason};
+ghost use Rattle.doc_stream.specs.Causes.{Cause, Missing};
 ghost use Rattle.doc_stream.specs.OpenBlock.{address_of};
 ghost use Rattle.doc_stream.specs.Sources.{asked_of};
-ghost use Rattle.doc_stream.specs.Steps.{IsNotOpen, IsWithin, Loads, Moves, Stands, Stops, StopsRecord, Takes, TakesRecord, Turns, Unsealed};
+ghost use Rattle.doc_stream.specs.Shown.{IsNotOpen, Stands, Unsealed};
+ghost use Rattle.doc_stream.specs.Steps.{IsNear, IsWithin, Loads, Moves, Stops, StopsRecord, Takes, TakesRecord, Turns};
 ghost use Rattle.forest_model.specs.Records as records;
 
 use crate::Tail;
@@ -80,9 +81,10 @@ impl Reader {
     pub(crate) fn load<V: View>(&mut self, view: &mut V, source: &Source) -> Result<bool, Refusal>
         requires { self.old.next < 2 ^ 63 }
         ensures next { OnOk result (self.new.next ≡ self.old.next + 1) }
+        ensures offset { OnOk result (self.new.offset ≡ 0) }
         ensures fits { OnOk result (length self.new.bytes ≤ 4064) }
         ensures loaded { IsTrue V.tells → IfOk result (Loads (asked_of source.now) (V.content view.old) self.old.next self.new) }
-        ensures reason { IfErr result (Reason V.tells source.now.revision (λ block. (block ≡ self.old.next) × Unsealed (asked_of source.now) (V.content view.old) self.old.next) (V.faults view.old) (V.faults view.new)) }
+        ensures missing { IfErr result (Missing V.tells source.now.revision self.old.next (Unsealed (asked_of source.now) (V.content view.old) self.old.next) (V.faults view.old) (V.faults view.new)) }
         ensures content { IsTrue V.tells → V.content view.new ≡ V.content view.old }
         ensures counts { V.faults view.old ≤ V.faults view.new }
         ensures untroubled { result ≢ Err Refusal.DiskFault → V.faults view.new ≡ V.faults view.old }
@@ -111,7 +113,7 @@ impl Reader {
         ensures some { OnOk result (1 ≤ length self.new.bytes) }
         ensures moved { OnOk result (Moves (asked_of source.now) self.old self.new 1 0) }
         ensures turned { IsTrue V.tells → OnOk result (Turns (asked_of source.now) (V.content view.old) self.old self.new) }
-        ensures reason { IfErr result (Reason V.tells source.now.revision (Stops (asked_of source.now) (V.content view.old) self.old 1) (V.faults view.old) (V.faults view.new)) }
+        ensures reason { IfErr result (Cause V.tells source.now.revision (IsNear (asked_of source.now) self.old 1) (Stops (asked_of source.now) (V.content view.old) self.old 1) (V.faults view.old) (V.faults view.new)) }
         ensures content { IsTrue V.tells → V.content view.new ≡ V.content view.old }
         ensures counts { V.faults view.old ≤ V.faults view.new }
         ensures untroubled { result ≢ Err Refusal.DiskFault → V.faults view.new ≡ V.faults view.old }
@@ -232,7 +234,7 @@ impl Reader {
         requires within { IsWithin (asked_of source.now).tail source.now.end self.old.next }
         ensures moved { OnOk result (Moves (asked_of source.now) self.old self.new (length out.old) (length out.old)) }
         ensures taken { IsTrue V.tells → OnOk result (Takes (asked_of source.now) (V.content view.old) self.old self.new out.new) }
-        ensures reason { IfErr result (Reason V.tells source.now.revision (Stops (asked_of source.now) (V.content view.old) self.old (length out.old)) (V.faults view.old) (V.faults view.new)) }
+        ensures reason { IfErr result (Cause V.tells source.now.revision (IsNear (asked_of source.now) self.old (length out.old)) (Stops (asked_of source.now) (V.content view.old) self.old (length out.old)) (V.faults view.old) (V.faults view.new)) }
         ensures content { IsTrue V.tells → V.content view.new ≡ V.content view.old }
         ensures counts { V.faults view.old ≤ V.faults view.new }
         ensures untroubled { result ≢ Err Refusal.DiskFault → V.faults view.new ≡ V.faults view.old }
@@ -259,7 +261,7 @@ impl Reader {
         ensures count { IfOk result (λ bytes. length bytes ≡ count) }
         ensures moved { OnOk result (Moves (asked_of source.now) self.old self.new count count) }
         ensures taken { IsTrue V.tells → IfOk result (Takes (asked_of source.now) (V.content view.old) self.old self.new) }
-        ensures reason { IfErr result (Reason V.tells source.now.revision (Stops (asked_of source.now) (V.content view.old) self.old count) (V.faults view.old) (V.faults view.new)) }
+        ensures reason { IfErr result (Cause V.tells source.now.revision (IsNear (asked_of source.now) self.old count) (Stops (asked_of source.now) (V.content view.old) self.old count) (V.faults view.old) (V.faults view.new)) }
         ensures content { IsTrue V.tells → V.content view.new ≡ V.content view.old }
         ensures counts { V.faults view.old ≤ V.faults view.new }
         ensures untroubled { result ≢ Err Refusal.DiskFault → V.faults view.new ≡ V.faults view.old }
@@ -285,7 +287,7 @@ impl Reader {
         ensures body { IfOk result (λ parts. length parts.2 ≡ head.now.body) }
         ensures moved { OnOk result (let count = head.now.key + head.now.meta + head.now.body in Moves (asked_of source.now) self.old self.new count count) }
         ensures taken { IsTrue V.tells → IfOk result (λ parts. Takes (asked_of source.now) (V.content view.old) self.old self.new (parts.0 ++ parts.1 ++ parts.2)) }
-        ensures reason { IfErr result (Reason V.tells source.now.revision (Stops (asked_of source.now) (V.content view.old) self.old (head.now.key + head.now.meta + head.now.body)) (V.faults view.old) (V.faults view.new)) }
+        ensures reason { IfErr result (Cause V.tells source.now.revision (IsNear (asked_of source.now) self.old (head.now.key + head.now.meta + head.now.body)) (Stops (asked_of source.now) (V.content view.old) self.old (head.now.key + head.now.meta + head.now.body)) (V.faults view.old) (V.faults view.new)) }
         ensures content { IsTrue V.tells → V.content view.new ≡ V.content view.old }
         ensures counts { V.faults view.old ≤ V.faults view.new }
         ensures untroubled { result ≢ Err Refusal.DiskFault → V.faults view.new ≡ V.faults view.old }
@@ -309,7 +311,7 @@ impl Reader {
         ensures is_record { IfOk result (λ rec. IsTrue (records.is_record rec)) }
         ensures moved { OnOk result ((count : ℕ) × (1 ≤ count) × (count ≤ 2 ^ 22) × Moves (asked_of source.now) self.old self.new count count) }
         ensures taken { IsTrue V.tells → IfOk result (TakesRecord (asked_of source.now) (V.content view.old) self.old self.new) }
-        ensures reason { IfErr result (Reason V.tells source.now.revision (StopsRecord (asked_of source.now) (V.content view.old) self.old) (V.faults view.old) (V.faults view.new)) }
+        ensures reason { IfErr result (Cause V.tells source.now.revision (IsNear (asked_of source.now) self.old 1052355) (StopsRecord (asked_of source.now) (V.content view.old) self.old) (V.faults view.old) (V.faults view.new)) }
         ensures content { IsTrue V.tells → V.content view.new ≡ V.content view.old }
         ensures counts { V.faults view.old ≤ V.faults view.new }
         ensures untroubled { result ≢ Err Refusal.DiskFault → V.faults view.new ≡ V.faults view.old }
@@ -344,7 +346,7 @@ fn fetch<V: View>(
 ) -> Result<(u8, usize), Refusal>
     ensures stands { IsTrue V.tells → IfOk result (λ found. Stands revision (V.content view.old) at found.0 (take found.1 block.new.bytes)) }
     ensures fits { IfOk result (λ found. found.1 ≤ 4064) }
-    ensures reason { IfErr result (Reason V.tells revision (λ n. (n ≡ at) × ((kind : ℕ) (payload : List ℕ) → Stands revision (V.content view.old) at kind payload → ⊥)) (V.faults view.old) (V.faults view.new)) }
+    ensures missing { IfErr result (Missing V.tells revision at ((kind : ℕ) (payload : List ℕ) → Stands revision (V.content view.old) at kind payload → ⊥) (V.faults view.old) (V.faults view.new)) }
     ensures content { IsTrue V.tells → V.content view.new ≡ V.content view.old }
     ensures counts { V.faults view.old ≤ V.faults view.new }
     ensures untroubled { result ≢ Err Refusal.DiskFault → V.faults view.new ≡ V.faults view.old }

@@ -1,10 +1,11 @@
-ghost use Rattle.std.specs.Prelude.{◌≡◌, ◌⊎◌, ◌≤◌, ◌<◌, ◌-◌, ◌/◌, ◌^◌, ◌++◌, ℕ, List, length, Some, None, IsTrue, IfOk, IfErr, OnOk, Ok, Err, ◌≢◌};
+ghost use Rattle.std.specs.Prelude.{◌≡◌, ◌⊎◌, ◌≤◌, ◌<◌, ◌-◌, ◌+◌, ◌/◌, ◌^◌, ◌++◌, ℕ, List, length, Some, None, IsTrue, IfOk, IfErr, OnOk, Ok, Err, ◌≢◌};
 ghost use Rattle.forest_model.specs.declared.refusal.Refusal.TheVariants as Refusal;
 ghost use Rattle.forest_model.specs.declared.stored.Rec.{Rec};
-ghost use Rattle.doc_stream.specs.Causes.{BreaksRecord, BreaksRecords, Reason};
+ghost use Rattle.doc_stream.specs.Causes.{BreaksRecord, BreaksRecords, Cause, Missing, Reason, longest_run};
 ghost use Rattle.doc_stream.specs.Reading.{RecordAt};
 ghost use Rattle.doc_stream.specs.Runs.{RecordsOf};
-ghost use Rattle.doc_stream.specs.Scans.{BreaksRest, Scans, StartsFrom, still};
+ghost use Rattle.doc_stream.specs.Scans.{BreaksRest, IsAhead, Scans, StartsFrom, still};
+ghost use Rattle.doc_stream.specs.Shown.{Shows, Unsealed, open_file, range_of};
 ghost use Rattle.doc_stream.specs.Sources.{asked_of};
 
 use crate::Tail;
@@ -25,6 +26,8 @@ pub fn scan<V: View>(
     requires { to ≤ 2 ^ 41 }
     ensures records { IsTrue V.tells → IfOk result (λ records. RecordsOf rev (V.content view.old) from (to - from) records) }
     ensures exact { IsTrue V.tells → (records : List (ℕ × Rec)) → RecordsOf rev (V.content view.old) from (to - from) records → (result ≡ Ok records) ⊎ (result ≡ Err Refusal.NoMemory) ⊎ (result ≡ Err Refusal.DiskFault) }
+    ensures asked { (file block : ℕ) → result ≡ Err (Refusal.Damaged file block) → (file ≡ rev) × (from ≤ block) × (block < to) }
+    ensures first { IsTrue V.tells → from < to → Unsealed (range_of rev to) (V.content view.old) from → (result ≡ Err (Refusal.Damaged rev from)) ⊎ (result ≡ Err Refusal.DiskFault) }
     ensures reason { IfErr result (Reason V.tells rev (BreaksRecords rev (V.content view.old) from (to - from)) (V.faults view.old) (V.faults view.new)) }
     ensures content { IsTrue V.tells → V.content view.new ≡ V.content view.old }
     ensures counts { V.faults view.old ≤ V.faults view.new }
@@ -60,7 +63,9 @@ fn step<V: View>(
     ensures later { OnOk result (reader.old.next ≤ reader.new.next) }
     ensures less { OnOk result (still source.now.end reader.new < still source.now.end reader.old) }
     ensures scanned { IsTrue V.tells → OnOk result ((done : List (ℕ × Rec)) × (records.new ≡ records.old ++ done) × Scans (asked_of source.now) (V.content view.old) reader.old reader.new done) }
-    ensures reason { IfErr result (Reason V.tells source.now.revision (BreaksRest (asked_of source.now) (V.content view.old) reader.old) (V.faults view.old) (V.faults view.new)) }
+    ensures shown { IsTrue V.tells → OnOk result (length reader.old.bytes ≡ 0 → (kind : ℕ) × (payload : List ℕ) × Shows source.now.revision (asked_of source.now).tail (V.content view.old) reader.old.next kind payload) }
+    ensures memory { length reader.old.bytes ≡ 0 → IfErr result (λ why. (why ≡ Refusal.DiskFault) ⊎ (why ≡ Refusal.Damaged source.now.revision reader.old.next)) }
+    ensures reason { IfErr result (Cause V.tells source.now.revision (IsAhead (asked_of source.now) reader.old) (BreaksRest (asked_of source.now) (V.content view.old) reader.old) (V.faults view.old) (V.faults view.new)) }
     ensures content { IsTrue V.tells → V.content view.new ≡ V.content view.old }
     ensures counts { V.faults view.old ≤ V.faults view.new }
     ensures untroubled { result ≢ Err Refusal.DiskFault → V.faults view.new ≡ V.faults view.old }
@@ -85,6 +90,8 @@ pub fn read<V: View>(
 ) -> Result<Rec, Refusal>
     ensures record { IsTrue V.tells → IfOk result (RecordAt rev (V.content view.old) tail.now address) }
     ensures exact { IsTrue V.tells → (rec : Rec) → RecordAt rev (V.content view.old) tail.now address rec → (result ≡ Ok rec) ⊎ (result ≡ Err Refusal.NoMemory) ⊎ (result ≡ Err Refusal.DiskFault) }
+    ensures asked { (file block : ℕ) → result ≡ Err (Refusal.Damaged file block) → (file ≡ rev) × (address / 4096 ≤ block) × (block ≤ address / 4096 + longest_run) }
+    ensures first { IsTrue V.tells → Unsealed (open_file rev tail.now) (V.content view.old) (address / 4096) → (result ≡ Err (Refusal.Damaged rev (address / 4096))) ⊎ (result ≡ Err Refusal.DiskFault) }
     ensures reason { IfErr result (Reason V.tells rev (BreaksRecord rev (V.content view.old) tail.now address) (V.faults view.old) (V.faults view.new)) }
     ensures content { IsTrue V.tells → V.content view.new ≡ V.content view.old }
     ensures counts { V.faults view.old ≤ V.faults view.new }
@@ -110,10 +117,13 @@ fn go_to<V: View>(
     reader: &mut Reader,
 ) -> Result<(), Refusal>
     requires open_block { (asked_of source.now).tail ≡ Some tail.now }
+    requires end { source.now.end ≡ 0 }
     requires at { reader.old.next ≡ address / 4096 }
     ensures next { OnOk result ((1 ≤ reader.new.next) × (reader.new.next ≤ 2 ^ 52)) }
+    ensures place { OnOk result ((reader.new.next ≡ address / 4096 + 1) × (reader.new.offset < 4064)) }
+    ensures shown { IsTrue V.tells → OnOk result ((payload : List ℕ) × Shows source.now.revision (asked_of source.now).tail (V.content view.old) (address / 4096) 1 payload) }
     ensures starts { IsTrue V.tells → OnOk result (StartsFrom (asked_of source.now) (V.content view.old) tail.now address reader.new) }
-    ensures reason { IfErr result (Reason V.tells source.now.revision (BreaksRecord source.now.revision (V.content view.old) tail.now address) (V.faults view.old) (V.faults view.new)) }
+    ensures missing { IfErr result (Missing V.tells source.now.revision (address / 4096) (BreaksRecord source.now.revision (V.content view.old) tail.now address (address / 4096)) (V.faults view.old) (V.faults view.new)) }
     ensures content { IsTrue V.tells → V.content view.new ≡ V.content view.old }
     ensures counts { V.faults view.old ≤ V.faults view.new }
     ensures untroubled { result ≢ Err Refusal.DiskFault → V.faults view.new ≡ V.faults view.old }

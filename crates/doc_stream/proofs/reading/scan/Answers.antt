@@ -1,15 +1,17 @@
-use Rattle.std.proofs.Common.{◌≡◌, ◌≤◌, ◌<◌, ◌-◌, ℕ, List, length, None, Ok, Err, inl, refl, sym, ◌∙◌, arith, ap, subst}
+use Rattle.std.proofs.Common.{◌≡◌, ◌≤◌, ◌<◌, ◌-◌, ◌⊎◌, ℕ, List, length, None, Ok, Err, inl, inr, refl, sym, ◌∙◌, arith, ap, subst}
 use Rattle.std.proofs.lemmas.List.{nil_from_length}
 use Rattle.std.proofs.lemmas.Result.{err_from_is_err_and}
 use Rattle.block_host.specs.declared.block.Block.{Block}
+use Rattle.forest_model.specs.declared.refusal.Refusal.TheVariants as Refusal
 use Rattle.forest_model.specs.declared.stored.Rec.{Rec}
 use Rattle.doc_stream.specs.Causes.{BreaksRecords}
 use Rattle.doc_stream.specs.Runs.{RecordsOf}
-use Rattle.doc_stream.specs.Scans.{BreaksRest, Scans}
-use Rattle.doc_stream.specs.Steps.{Asked, Place}
-use Rattle.doc_stream.proofs.AddressReads.{refused}
-use Rattle.doc_stream.proofs.Loads.{reason_of}
-use Rattle.doc_stream.proofs.RangeScans.{ahead, scans_both, breaks_records, all_records, only_records}
+use Rattle.doc_stream.specs.Scans.{BreaksRest, IsAhead, Scans}
+use Rattle.doc_stream.specs.Shown.{Asked, Shows}
+use Rattle.doc_stream.specs.Steps.{Place}
+use Rattle.doc_stream.proofs.AddressReads.{cause_asked, refused}
+use Rattle.doc_stream.proofs.Loads.{cause_reason, either_err, same_err}
+use Rattle.doc_stream.proofs.RangeScans.{ahead, low_ahead, scans_both, shown_first, breaks_records, all_records, only_records}
 use Rattle.doc_stream.proofs.reading.scan.Goals as goal
 
 pub loop-reader-preserved : goal.loop-reader-preserved
@@ -25,6 +27,10 @@ loop-reader-preserved g c =
     record {
       ready = λ some. (ahead start.next old.next new.next (length old.bytes) inv_later (λ before. (inv.ready before).0) step_later (c.in_ok-step.ensures.advanced some), c.in_ok-step.ensures.ready some);
       later = omega arith;
+      shown = elim inv.shown [
+        | inl same ↦ inr (λ told. shown_first asked file (g.V.View.content c.loop-reader.view) start old c.new-reader.ensures.bytes (inv.content told) same (c.in_ok-step.ensures.shown told))
+        | inr there ↦ inr there
+      ];
       scanned = λ told.
           let more = c.in_ok-step.ensures.scanned told in
           subst (λ (l : List (ℕ × Rec)). Scans asked file start new l) (sym more.1)
@@ -48,10 +54,13 @@ returns-in_err-step-clause-exact g c told records of =
     let file = g.V.View.content c.args.view.now in
     let file' = g.V.View.content c.loop-reader.view in
     let inv = c.loop-reader.invariant in
-    refused g.V.View.tells c.args.rev (BreaksRest asked file' c.loop-reader.reader) (g.V.View.faults c.loop-reader.view) (g.V.View.faults c.step.new.view) c.in_err-step.field-0.0 c.from_residual.result records
+    refused g.V.View.tells c.args.rev (BreaksRecords c.args.rev file c.args.from (c.args.to - c.args.from)) (g.V.View.faults c.loop-reader.view) (g.V.View.faults c.step.new.view) c.in_err-step.field-0.0 c.from_residual.result records
     (p.1 ∙ ap Err p.2) told
-    (λ block breaks. (broken c.args.rev c.args.from c.args.to file file' c.new-reader.result c.loop-reader.reader c.loop-reader.records block c.new-reader.ensures.next c.new-reader.ensures.bytes (inv.content told) inv.later (λ some. (inv.ready some).0) (inv.scanned told) breaks).broken file records refl of)
-    c.in_err-step.ensures.reason
+    (λ block breaks. breaks.broken file records refl of)
+    (cause_reason g.V.View.tells c.args.rev (IsAhead asked c.loop-reader.reader) (BreaksRest asked file' c.loop-reader.reader) (BreaksRecords c.args.rev file c.args.from (c.args.to - c.args.from))
+    (g.V.View.faults c.loop-reader.view) (g.V.View.faults c.loop-reader.view) (g.V.View.faults c.step.new.view) c.in_err-step.field-0.0 (omega arith)
+    (λ told n near breaks. broken c.args.rev c.args.from c.args.to file file' c.new-reader.result c.loop-reader.reader c.loop-reader.records n c.new-reader.ensures.next c.new-reader.ensures.bytes (inv.content told) inv.later (λ some. (inv.ready some).0) (inv.scanned told) breaks)
+    c.in_err-step.ensures.reason)
 
 pub returns-in_err-step-clause-reason : goal.returns-in_err-step-clause-reason
 returns-in_err-step-clause-reason g c =
@@ -61,10 +70,49 @@ returns-in_err-step-clause-reason g c =
     let file' = g.V.View.content c.loop-reader.view in
     let inv = c.loop-reader.invariant in
     let same = inv.untroubled in
-    rw (p.1, p.2) (reason_of g.V.View.tells c.args.rev (BreaksRest asked file' c.loop-reader.reader) (BreaksRecords c.args.rev file c.args.from (c.args.to - c.args.from))
+    rw (p.1, p.2) (cause_reason g.V.View.tells c.args.rev (IsAhead asked c.loop-reader.reader) (BreaksRest asked file' c.loop-reader.reader) (BreaksRecords c.args.rev file c.args.from (c.args.to - c.args.from))
     (g.V.View.faults c.args.view.now) (g.V.View.faults c.loop-reader.view) (g.V.View.faults c.step.new.view) c.in_err-step.field-0.0 (omega arith)
-    (λ told n breaks. broken c.args.rev c.args.from c.args.to file file' c.new-reader.result c.loop-reader.reader c.loop-reader.records n c.new-reader.ensures.next c.new-reader.ensures.bytes (inv.content told) inv.later (λ some. (inv.ready some).0) (inv.scanned told) breaks)
+    (λ told n near breaks. broken c.args.rev c.args.from c.args.to file file' c.new-reader.result c.loop-reader.reader c.loop-reader.records n c.new-reader.ensures.next c.new-reader.ensures.bytes (inv.content told) inv.later (λ some. (inv.ready some).0) (inv.scanned told) breaks)
     c.in_err-step.ensures.reason)
+
+pub returns-in_err-step-clause-asked : goal.returns-in_err-step-clause-asked
+returns-in_err-step-clause-asked g c asked_file block is =
+    let p = err_from_is_err_and c.from_residual.result c.from_residual.ensures.1 in
+    let asked : Asked = record { revision = c.args.rev; tail = None; end = c.args.to } in
+    let file' = g.V.View.content c.loop-reader.view in
+    let inv = c.loop-reader.invariant in
+    let start = c.new-reader.result in
+    let from : start.next ≡ c.args.from = c.new-reader.ensures.next in
+    let why = same_err c.in_err-step.field-0.0 asked_file block (sym (p.1 ∙ ap Err p.2) ∙ is) in
+    let at = cause_asked g.V.View.tells c.args.rev (IsAhead asked c.loop-reader.reader) (BreaksRest asked file' c.loop-reader.reader) (g.V.View.faults c.loop-reader.view) (g.V.View.faults c.step.new.view) c.in_err-step.field-0.0 asked_file block why c.in_err-step.ensures.reason in
+    let low = low_ahead asked start.next c.loop-reader.reader block inv.later (λ some. (inv.ready some).0) at.1 in
+    let least = low.0 in
+    (at.0, omega arith, low.1)
+
+pub returns-in_err-step-clause-first : goal.returns-in_err-step-clause-first
+returns-in_err-step-clause-first g c told lt unsealed =
+    let p = err_from_is_err_and c.from_residual.result c.from_residual.ensures.1 in
+    let start = c.new-reader.result in
+    let from : start.next ≡ c.args.from = c.new-reader.ensures.next in
+    elim c.loop-reader.invariant.shown [
+      | inl same ↦
+          (let empty : length c.loop-reader.reader.bytes ≡ 0 = ap (λ (q : Place). length q.bytes) same ∙ c.new-reader.ensures.bytes in
+          let at : c.loop-reader.reader.next ≡ c.args.from = ap (λ (q : Place). q.next) same ∙ from in
+          either_err c.from_residual.result c.in_err-step.field-0.0 (Refusal.Damaged c.args.rev c.args.from) (p.1 ∙ ap Err p.2)
+          (subst (λ (n : ℕ). (c.in_err-step.field-0.0 ≡ Refusal.DiskFault) ⊎ (c.in_err-step.field-0.0 ≡ Refusal.Damaged c.args.rev n)) at (c.in_err-step.ensures.memory empty)))
+      | inr there ↦ (let shown = there told in absurd (unsealed shown.0 shown.1 (subst (λ (n : ℕ). Shows c.args.rev None (g.V.View.content c.args.view.now) n shown.0 shown.1) from shown.2)))
+    ]
+
+pub returns-clause-first : goal.returns-clause-first
+returns-clause-first g c told lt unsealed =
+    let start = c.new-reader.result in
+    let from : start.next ≡ c.args.from = c.new-reader.ensures.next in
+    let next : c.next.result ≡ c.loop-reader.reader.next = c.next.ensures in
+    let past : c.args.to ≤ c.next.result = c.if-next-to.false in
+    elim c.loop-reader.invariant.shown [
+      | inl same ↦ (let at : c.loop-reader.reader.next ≡ start.next = ap (λ (q : Place). q.next) same in absurd (omega arith))
+      | inr there ↦ (let shown = there told in absurd (unsealed shown.0 shown.1 (subst (λ (n : ℕ). Shows c.args.rev None (g.V.View.content c.args.view.now) n shown.0 shown.1) from shown.2)))
+    ]
 
 pub returns-clause-records : goal.returns-clause-records
 returns-clause-records g c told =

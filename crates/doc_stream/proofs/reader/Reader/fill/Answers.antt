@@ -4,9 +4,9 @@ use Rattle.std.proofs.lemmas.List.{length-take-le, length-drop}
 use borrow.Rule.Slice.PartMut.{mid_of, post_of, put_mid, same_len_mid}
 use Rattle.block_host.specs.declared.block.Block.{Block}
 use Rattle.doc_stream.specs.Sources.{asked_of}
-use Rattle.doc_stream.specs.Steps.{Turns, Stops}
-use Rattle.doc_stream.proofs.Loads.{reason_of}
-use Rattle.doc_stream.proofs.Fills.{fill_more, moved_more, stops_filling}
+use Rattle.doc_stream.specs.Steps.{IsNear, Turns, Stops}
+use Rattle.doc_stream.proofs.Loads.{cause_of}
+use Rattle.doc_stream.proofs.Fills.{fill_more, moved_more, near_after, stops_filling}
 use Rattle.doc_stream.proofs.reader.Reader.fill.Goals as goal
 
 pub returns-in_err-turn-clause-reason : goal.returns-in_err-turn-clause-reason
@@ -17,9 +17,11 @@ returns-in_err-turn-clause-reason g c =
     let place = c.args.self.now in
     let same_faults = c.loop-filled.invariant.untroubled in
     let long : length c.loop-filled.out ≡ length c.args.out.now = c.loop-filled.auto.out in
-    rw (p.1, p.2) (reason_of g.V.View.tells asked.revision (Stops asked (g.V.View.content c.loop-filled.view) c.loop-filled.self 1) (Stops asked file place (length c.args.out.now))
+    let test = c.loop-filled-test.true in
+    rw (p.1, p.2) (cause_of g.V.View.tells asked.revision (IsNear asked c.loop-filled.self 1) (IsNear asked place (length c.args.out.now)) (Stops asked (g.V.View.content c.loop-filled.view) c.loop-filled.self 1) (Stops asked file place (length c.args.out.now))
     (g.V.View.faults c.args.view.now) (g.V.View.faults c.loop-filled.view) (g.V.View.faults c.turn.new.view) c.in_err-turn.field-0.0 (omega arith)
-    (λ told n h. subst (λ (k : ℕ). Stops asked file place k n) long
+    (λ n near. near_after asked place c.loop-filled.self c.loop-filled.filled 1 (length c.args.out.now) n c.loop-filled.invariant.moved (omega arith) near)
+    (λ told n near h. subst (λ (k : ℕ). Stops asked file place k n) long
     (stops_filling asked file place c.loop-filled.self c.loop-filled.out c.loop-filled.filled n c.loop-filled-test.true (c.loop-filled.invariant.taken told)
     (subst (λ (f : List Block). Stops asked f c.loop-filled.self 1 n) (c.loop-filled.invariant.content told) h)))
     c.in_err-turn.ensures.reason)
@@ -46,7 +48,7 @@ loop-filled-preserved g c =
     let fits : n ≤ length part = omega arith in
     record {
       count = omega arith;
-      moved = moved_more asked place old mid new (take n part) filled n c.copy-filled.ensures.least inv.moved c.in_ok-turn.ensures.moved c.copy-filled.ensures.next c.copy-filled.ensures.taken (length-take-le n part fits);
+      moved = moved_more asked place old mid new (take n part) filled n c.copy-filled.ensures.least inv.moved c.in_ok-turn.ensures.moved c.copy-filled.ensures.next c.copy-filled.ensures.offset c.copy-filled.ensures.taken (length-take-le n part fits);
       taken = λ told. fill_more asked file place old mid new out part (post_of filled left out) (put_mid filled left out part) filled n within c.copy-filled.ensures.least fits refl
           (inv.taken told) (subst (λ (f : List Block). Turns asked f old mid) (inv.content told) (c.in_ok-turn.ensures.turned told)) c.copy-filled.ensures.next c.copy-filled.ensures.offset c.copy-filled.ensures.taken;
       content = λ told. c.in_ok-turn.ensures.content told ∙ inv.content told;

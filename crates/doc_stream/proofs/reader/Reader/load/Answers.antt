@@ -1,22 +1,23 @@
 use Rattle.std.proofs.Common.{◌≡◌, ℕ, List, [], take, refl, ◌∙◌, arith, ap, subst}
 use Rattle.std.proofs.lemmas.Result.{err_from_is_err_and}
 use Rattle.doc_stream.specs.Sources.{asked_of}
-use Rattle.doc_stream.specs.Steps.{IsNotOpen, Place, Stands, Unsealed}
-use Rattle.doc_stream.proofs.Loads.{loads_others, unsealed, reason_of}
+use Rattle.doc_stream.specs.Shown.{IsNotOpen, Stands, Unsealed}
+use Rattle.doc_stream.specs.Steps.{Place}
+use Rattle.doc_stream.proofs.Loads.{loads_others, unsealed, missing_of}
 use Rattle.doc_stream.proofs.reader.Reader.load.Goals as goal
 
-pub returns-in_err-kind-clause-reason : goal.returns-in_err-kind-clause-reason
-returns-in_err-kind-clause-reason g c =
+pub returns-in_err-kind-clause-missing : goal.returns-in_err-kind-clause-missing
+returns-in_err-kind-clause-missing g c =
     let p = err_from_is_err_and c.from_residual.result c.from_residual.ensures.1 in
     let asked = asked_of c.args.source.now in
     let file = g.V.View.content c.args.view.now in
     let at = c.args.self.now.next in
     let next : c.self.inside.next ≡ at = ap (λ (p : Place). p.next) c.self.view_is in
     let not : IsNotOpen asked.tail at = subst (λ (k : ℕ). IsNotOpen asked.tail k) next c.in_default.ensures in
-    rw (p.1, p.2) (reason_of g.V.View.tells asked.revision (λ n. (n ≡ c.self.inside.next) × ((kind : ℕ) (payload : List ℕ) → Stands asked.revision file c.self.inside.next kind payload → ⊥)) (λ n. (n ≡ at) × Unsealed asked file at)
-    (g.V.View.faults c.args.view.now) (g.V.View.faults c.args.view.now) (g.V.View.faults c.fetch.new.view) c.in_err-kind.field-0.0 (omega arith)
-    (λ told n h. (h.0 ∙ next, unsealed asked file at not (subst (λ (k : ℕ). (kind : ℕ) (payload : List ℕ) → Stands asked.revision file k kind payload → ⊥) next h.1)))
-    c.in_err-kind.ensures.reason)
+    rw (p.1, p.2) (missing_of g.V.View.tells asked.revision c.self.inside.next at ((kind : ℕ) (payload : List ℕ) → Stands asked.revision file c.self.inside.next kind payload → ⊥) (Unsealed asked file at)
+    (g.V.View.faults c.args.view.now) (g.V.View.faults c.fetch.new.view) c.in_err-kind.field-0.0 next
+    (λ told h. unsealed asked file at not (subst (λ (k : ℕ). (kind : ℕ) (payload : List ℕ) → Stands asked.revision file k kind payload → ⊥) next h))
+    c.in_err-kind.ensures.missing)
 
 pub returns-then-kind-ne1-clause-loaded : goal.returns-then-kind-ne1-clause-loaded
 returns-then-kind-ne1-clause-loaded g c told =

@@ -3,9 +3,9 @@ use Rattle.std.proofs.lemmas.Result.{err_from_is_err_and}
 use Rattle.block_host.specs.declared.block.Block.{Block}
 use Rattle.forest_model.specs.declared.stored.Rec.{Rec}
 use Rattle.doc_stream.specs.Sources.{asked_of}
-use Rattle.doc_stream.specs.Steps.{Takes, Stops, StopsRecord}
-use Rattle.doc_stream.proofs.Loads.{reason_of, reason_damaged}
-use Rattle.doc_stream.proofs.Fills.{moved_both}
+use Rattle.doc_stream.specs.Steps.{IsNear, Takes, Stops, StopsRecord}
+use Rattle.doc_stream.proofs.Loads.{cause_of, cause_damaged}
+use Rattle.doc_stream.proofs.Fills.{moved_both, near_after, near_here, near_more}
 use Rattle.doc_stream.proofs.RecordBytes.{stops_head, stops_kind, stops_parts, takes_record, stops_form}
 use Rattle.doc_stream.proofs.reader.Reader.record.Goals as goal
 
@@ -14,9 +14,10 @@ returns-in_err-fill-clause-reason g c =
     let p = err_from_is_err_and c.from_residual.result c.from_residual.ensures.1 in
     let asked = asked_of c.args.source.now in
     let file = g.V.View.content c.args.view.now in
-    rw (p.1, p.2) (reason_of g.V.View.tells asked.revision (Stops asked file c.args.self.now 24) (StopsRecord asked file c.args.self.now)
+    rw (p.1, p.2) (cause_of g.V.View.tells asked.revision (IsNear asked c.args.self.now 24) (IsNear asked c.args.self.now 1052355) (Stops asked file c.args.self.now 24) (StopsRecord asked file c.args.self.now)
     (g.V.View.faults c.args.view.now) (g.V.View.faults c.args.view.now) (g.V.View.faults c.fill.new.view) c.in_err-fill.field-0.0 (omega arith)
-    (λ told n h. stops_head asked file c.args.self.now n h)
+    (λ n near. near_more asked c.args.self.now 24 1052355 n (omega arith) near)
+    (λ told n near h. stops_head asked file c.args.self.now n h)
     c.in_err-fill.ensures.reason)
 
 pub returns-in_default-clause-reason : goal.returns-in_default-clause-reason
@@ -27,7 +28,8 @@ returns-in_default-clause-reason g c =
     let moved = c.in_ok-fill.ensures.moved in
     let later = moved.later in
     let first = c.requires.first in
-    reason_damaged g.V.View.tells asked.revision (StopsRecord asked file c.args.self.now) (g.V.View.faults c.args.view.now) (g.V.View.faults c.fill.new.view) (mid.next - 1) c.damaged.result c.damaged.ensures
+    cause_damaged g.V.View.tells asked.revision (IsNear asked c.args.self.now 1052355) (StopsRecord asked file c.args.self.now) (g.V.View.faults c.args.view.now) (g.V.View.faults c.fill.new.view) (mid.next - 1) c.damaged.result c.damaged.ensures
+    (near_here asked c.args.self.now mid 24 1052355 (omega arith) moved (omega arith))
     (λ told. stops_kind asked file c.args.self.now mid c.fill.new.out c.fill.auto.out (c.in_ok-fill.ensures.taken told) (omega arith) moved.within c.in_default.ensures.none)
 
 pub returns-in_err-key-clause-reason : goal.returns-in_err-key-clause-reason
@@ -42,10 +44,12 @@ returns-in_err-key-clause-reason g c =
     let numbers = c.in-Some.ensures.numbers in
     let count = head.key + head.meta + head.body in
     let same = c.in_ok-fill.ensures.untroubled in
-    rw (p.1, p.2) (reason_of g.V.View.tells asked.revision (Stops asked (g.V.View.content c.fill.new.view) c.fill.new.self count) (StopsRecord asked file c.args.self.now)
+    let meta = small.1 in
+    rw (p.1, p.2) (cause_of g.V.View.tells asked.revision (IsNear asked c.fill.new.self count) (IsNear asked c.args.self.now 1052355) (Stops asked (g.V.View.content c.fill.new.view) c.fill.new.self count) (StopsRecord asked file c.args.self.now)
     (g.V.View.faults c.args.view.now) (g.V.View.faults c.fill.new.view) (g.V.View.faults c.parts.new.view) c.in_err-key.field-0.0 (omega arith)
-    (λ told n h. stops_parts asked file c.args.self.now c.fill.new.self c.fill.new.out c.fill.auto.out (c.in_ok-fill.ensures.taken told) head.kind head.meta head.key head.body head.store head.seq
-    (omega arith) (omega arith) numbers.0 numbers.1 c.in-Some.ensures.head count n (omega arith) (subst (λ (f : List Block). Stops asked f c.fill.new.self count n) (c.in_ok-fill.ensures.content told) h))
+    (λ n near. near_after asked c.args.self.now c.fill.new.self 24 count 1052355 n c.in_ok-fill.ensures.moved (omega arith) near)
+    (λ told n near h. stops_parts asked file c.args.self.now c.fill.new.self c.fill.new.out c.fill.auto.out (c.in_ok-fill.ensures.taken told) head.kind head.meta head.key head.body head.store head.seq
+    (omega arith) (omega arith) numbers.0 numbers.1 c.in-Some.ensures.head c.in-Some.ensures.allowed count n (omega arith) (subst (λ (f : List Block). Stops asked f c.fill.new.self count n) (c.in_ok-fill.ensures.content told) h))
     c.in_err-key.ensures.reason)
 
 pub returns-then-not-has_form-clause-reason : goal.returns-then-not-has_form-clause-reason
@@ -64,11 +68,15 @@ returns-then-not-has_form-clause-reason g c =
     let earlier = c.in_ok-fill.ensures.moved in
     let earlier_later = earlier.later in
     let first = c.requires.first in
-    reason_damaged g.V.View.tells asked.revision (StopsRecord asked file c.args.self.now) (g.V.View.faults c.args.view.now) (g.V.View.faults c.parts.new.view) (new.next - 1) c.damaged-then-not-has_form.result c.damaged-then-not-has_form.ensures
+    let meta = small.1 in
+    let count = head.key + head.meta + head.body in
+    let both = moved_both asked c.args.self.now c.fill.new.self new 24 count earlier moved in
+    cause_damaged g.V.View.tells asked.revision (IsNear asked c.args.self.now 1052355) (StopsRecord asked file c.args.self.now) (g.V.View.faults c.args.view.now) (g.V.View.faults c.parts.new.view) (new.next - 1) c.damaged-then-not-has_form.result c.damaged-then-not-has_form.ensures
+    (near_here asked c.args.self.now new (24 + count) 1052355 (omega arith) both (omega arith))
     (λ told. stops_form asked file c.args.self.now c.fill.new.self c.fill.new.out c.fill.auto.out (c.in_ok-fill.ensures.taken told) head.kind head.meta head.key head.body head.store head.seq
     (omega arith) (omega arith) numbers.0 numbers.1 c.in-Some.ensures.head new rec refl c.in_ok-key.ensures.meta c.in_ok-key.ensures.key c.in_ok-key.ensures.body refl refl
     (subst (λ (f : List Block). Takes asked f c.fill.new.self new (rec.key ++ rec.meta ++ rec.body)) (c.in_ok-fill.ensures.content told) (c.in_ok-key.ensures.taken told))
-    (omega arith) moved.within (sym c.has_form.ensures ∙ c.if-not-has_form.true))
+    c.in-Some.ensures.allowed (omega arith) moved.within (sym c.has_form.ensures ∙ c.if-not-has_form.true))
 
 pub returns-clause-moved : goal.returns-clause-moved
 returns-clause-moved g c =
