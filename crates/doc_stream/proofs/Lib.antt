@@ -15,3 +15,4 @@ mod Joined
 mod KeptAt
 mod WrittenRead
 mod WrittenScanned
+mod Ranges

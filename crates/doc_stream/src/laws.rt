@@ -1,4 +1,4 @@
-ghost use Rattle.std.specs.Prelude.{◌≡◌, ◌+◌, ◌-◌, ◌<◌, ◌≤◌, ℕ, List, [], ◌∷◌, ◌++◌, length, slice_get, Some, IsTrue};
+ghost use Rattle.std.specs.Prelude.{◌≡◌, ◌⊎◌, ◌+◌, ◌-◌, ◌<◌, ◌≤◌, ℕ, List, [], ◌∷◌, ◌++◌, length, slice_get, Some, IsTrue};
 ghost use Rattle.block_host.specs.Sealed.{IsSealed};
 ghost use Rattle.block_host.specs.declared.block.Block.{Block};
 ghost use Rattle.forest_model.specs.declared.stored.Rec.{Rec};
@@ -52,4 +52,21 @@ pub fn puts_join()
     ensures join { (revision : ℕ) (first second : List ℕ) (a b c : OpenBlock) (o p q : List Block) → length c.bytes < 4064
         → PutsBytes revision first a b o p → PutsBytes revision second b c p q → PutsBytes revision (first ++ second) a c o q }
     ensures none { (revision : ℕ) (a : OpenBlock) (o : List Block) → length a.bytes < 4064 → PutsBytes revision [] a a o o }
+{}
+
+/// What a range of blocks holds as records stands at the addresses, wherever outside the range a block is open.
+pub fn scanned_there()
+    ensures { (revision : ℕ) (file : List Block) (tail : OpenBlock) (start count : ℕ) (records : List (ℕ × Rec)) → RecordsOf revision file start count records → (tail.number < start) ⊎ (start + count ≤ tail.number)
+        → (n : ℕ) (address : ℕ) (r : Rec) → slice_get records n ≡ Some (address, r) → RecordAt revision file tail address r }
+{}
+
+/// A range of blocks holds one list of records.
+pub fn scanned_is_one()
+    ensures { (revision : ℕ) (file : List Block) (start count : ℕ) (records others : List (ℕ × Rec)) → RecordsOf revision file start count records → RecordsOf revision file start count others → records ≡ others }
+{}
+
+/// It goes by these blocks alone.
+pub fn scanned_stays()
+    ensures { (revision : ℕ) (old new : List Block) (start count : ℕ) (records : List (ℕ × Rec)) → ((at : ℕ) → start ≤ at → at < start + count → slice_get new at ≡ slice_get old at)
+        → RecordsOf revision old start count records → RecordsOf revision new start count records }
 {}

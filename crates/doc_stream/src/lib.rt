@@ -16,7 +16,7 @@ mod tail;
 
 pub use laws::{
     blocks_keep_records, pads_keep_records, put_stands, puts_join, puts_keep_records,
-    written_is_read, written_is_scanned,
+    scanned_is_one, scanned_stays, scanned_there, written_is_read, written_is_scanned,
 };
 pub use reading::{read, scan};
 pub use tail::Tail;
