@@ -1,2 +1,4 @@
 mod FirstCommit
 mod NewFiles
+mod OneDurable
+mod Changed

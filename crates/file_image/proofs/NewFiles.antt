@@ -9,9 +9,10 @@ use Rattle.block_host.specs.declared.block.Block.{Block}
 use Rattle.block_host.proofs.Back.{zero_block-torn}
 use Rattle.forest_model.specs.State.{new_durable, first_commit}
 use Rattle.meta_slots.specs.Slots.{IsCurrent, IsSlot, Says, slot_bytes}
-use Rattle.file_image.specs.Commits.{IsHeaderAt, IsCommitOf}
+use Rattle.header_block.specs.Headers.{IsHeaderAt, IsLast}
+use Rattle.file_image.specs.Commits.{IsCommitOf}
 use Rattle.file_image.specs.NewStore.{IsNewStore, new_header}
-use Rattle.file_image.specs.Stands.{IsLast, Stands}
+use Rattle.file_image.specs.Stands.{Names, Stands}
 use Rattle.file_image.proofs.FirstCommit.{none_counted, none_live, is_commit}
 
 -- zeros are no slot
@@ -53,20 +54,25 @@ module _ (image : Image) (new : IsNewStore image) where
     no_seq_root = refl;
     records = [];
     read = record { pieces = []; blocks = refl; are = refl };
-    rise = tt;
-    documents = refl;
+    made = record { known = tt; rise = tt; above = λ k d there. tt; folded = refl; last = (tt, tt) };
     rules = is_commit;
-    agree = (record { count = none_counted 0; number = tt }, tt);
+    count = (none_counted 0, tt);
     live = none_live;
   }
 
+  names : Names (image 0) 1 1
+  names = record { slot = counts; not_meta = omega arith; apart = λ a b first second same. counts.says_second b second }
+
   pub stands_new : Stands image new_durable
   stands_new = record {
-    slot = counts;
+    names = names;
     at = 0;
     header = new_header;
-    last = subst (λ (file : List Block). IsLast 1 file 0) (sym new.file) (alone 1 new.header);
-    chain = (first_header, commit_zero, refl);
-    next_commit = refl;
-    next_store = refl;
+    by = record {
+      older = [];
+      headers = record { is_last = subst (λ (file : List Block). IsLast 1 file 0) (sym new.file) (alone 1 new.header); linked = (first_header, refl, tt) };
+      commits = (commit_zero, refl);
+      next_commit = refl;
+      next_store = refl;
+    };
   }

@@ -1,8 +1,7 @@
 -- The commit that a header stands for: by the blocks below it alone, and so far without trees.
-use Rattle.std.specs.Prelude.{◌≡◌, ℕ, ◌-◌, ◌<◌, Bool, ◌==◌, ◌&&◌, ◌||◌, List, [], ◌∷◌, map, filter, sum_by, Some, None, slice_get, IsTrue}
+use Rattle.std.specs.Prelude.{◌≡◌, ℕ, ◌-◌, ◌<◌, Bool, ◌==◌, ◌&&◌, ◌||◌, List, [], ◌∷◌, map, filter, sum_by, Some, None, IsTrue}
 use Rattle.std.specs.List.{AllByRecursion}
 use Rattle.std.specs.FinMap as finite
-use Rattle.block_host.specs.Sealed.{IsSealed}
 use Rattle.block_host.specs.declared.block.Block.{Block}
 use Rattle.doc_stream.specs.Fold.{after_records}
 use Rattle.doc_stream.specs.Runs.{RecordsOf}
@@ -10,18 +9,13 @@ use Rattle.forest_model.specs.Documents.{Map, Entry, count_of}
 use Rattle.forest_model.specs.State.{IsCommit, EachLater}
 use Rattle.forest_model.specs.Step.{record_length}
 use Rattle.forest_model.specs.Stored.{StoreRow}
+use Rattle.forest_model.specs.declared.documents.Doc.{Doc}
+use Rattle.forest_model.specs.declared.documents.DocKey.{DocKey}
 use Rattle.forest_model.specs.declared.state.Commit.{Commit}
 use Rattle.forest_model.specs.declared.state.Store.{Store}
 use Rattle.forest_model.specs.declared.stored.Header.{Header}
 use Rattle.forest_model.specs.declared.stored.Rec.{Rec}
-use Rattle.header_block.specs.Layout.{header_bytes, is_well_formed}
-
--- a sealed, well-formed header in a block of a file
-pub record IsHeaderAt (revision : ℕ) (file : List Block) (at : ℕ) (h : Header) : Type 0 where
-  pub block : Block
-  pub there : slice_get file at ≡ Some block
-  pub is_sealed : IsSealed revision at 4 (header_bytes h) block
-  pub well_formed : IsTrue (is_well_formed at h)
+use Rattle.header_block.specs.Headers.{Placed}
 
 -- a store of a header's table
 abbrev pub store_of_row : StoreRow → Store
@@ -48,10 +42,19 @@ AtLastNumber row [] = Unit {0}
 AtLastNumber row (r ∷ []) = row.seq ≡ r.1.seq
 AtLastNumber row (r ∷ s ∷ records) = AtLastNumber row (s ∷ records)
 
--- its number of documents and its sequence number agree with them
-pub record Agrees (documents : Map) (records : List (ℕ × Rec)) (row : StoreRow) : Type 0 where
-  pub count : row.documents ≡ count_of documents row.id
-  pub number : AtLastNumber row (filter (λ r. draws_number r && (r.1.store == row.id)) records)
+-- each row's number is at its last record
+abbrev pub AtNumbers : List (ℕ × Rec) → StoreRow → Type 0
+AtNumbers records row = AtLastNumber row (filter (λ r. draws_number r && (r.1.store == row.id)) records)
+
+-- What records behind a map of documents make, with a table of stores and a next store id.
+pub record Make (base : Map) (records : List (ℕ × Rec)) (rows : List StoreRow) (next : ℕ) (documents : Map) : Type 0 where
+  -- no record names a store that is still to be drawn
+  pub known : AllByRecursion (λ r. r.1.store < next) records
+  -- numbers rise, and are greater than those of the store's documents in the map
+  pub rise : NumbersRise records
+  pub above : (k : DocKey) (d : Doc) → finite.get base k ≡ Some d → AllByRecursion (λ r. IsTrue (draws_number r) → r.1.store ≡ k.store → d.seq < r.1.seq) records
+  pub folded : documents ≡ (after_records ([], base) records).1
+  pub last : AllByRecursion (AtNumbers records) rows
 
 -- the commit of a header in a block
 pub record IsCommitOf (revision : ℕ) (file : List Block) (at : ℕ) (h : Header) (c : Commit) : Type 0 where
@@ -62,8 +65,13 @@ pub record IsCommitOf (revision : ℕ) (file : List Block) (at : ℕ) (h : Heade
   pub no_seq_root : h.seq ≡ None
   pub records : List (ℕ × Rec)
   pub read : RecordsOf revision file h.wal_from (at - h.wal_from) records
-  pub rise : NumbersRise records
-  pub documents : c.documents ≡ (after_records ([], finite.empty) records).1
+  pub made : Make finite.empty records h.stores h.next_store c.documents
   pub rules : IsCommit c
-  pub agree : AllByRecursion (Agrees c.documents records) h.stores
+  pub count : AllByRecursion (λ row. row.documents ≡ count_of c.documents row.id) h.stores
   pub live : h.live ≡ live_bytes c.documents
+
+-- the commits of headers, one by one
+abbrev pub AreCommitsOf : ℕ → List Block → List Placed → List Commit → Type 0
+AreCommitsOf revision file [] commits = commits ≡ []
+AreCommitsOf revision file (h ∷ headers) [] = ⊥
+AreCommitsOf revision file (h ∷ headers) (c ∷ commits) = IsCommitOf revision file h.0 h.1 c × AreCommitsOf revision file headers commits

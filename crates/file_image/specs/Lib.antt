@@ -1,3 +1,4 @@
 pub mod Commits
 pub mod Stands
+pub mod Changes
 pub mod NewStore

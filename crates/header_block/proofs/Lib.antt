@@ -2,3 +2,4 @@ mod HeaderBack
 mod Places
 mod ReadBack
 mod Written
+mod OneHeader

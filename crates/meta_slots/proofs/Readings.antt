@@ -40,7 +40,7 @@ one_saying n block None (Some b) says says' = absurd (says b says')
 one_saying n block (Some a) None says says' = absurd (says' a says)
 one_saying n block (Some a) (Some b) says says' = ap Some (one_slot n block a b says says')
 
-one_current : (slot0 slot1 : Block) (a b : Option Slot) → IsCurrent slot0 slot1 a → IsCurrent slot0 slot1 b → a ≡ b
+pub one_current : (slot0 slot1 : Block) (a b : Option Slot) → IsCurrent slot0 slot1 a → IsCurrent slot0 slot1 b → a ≡ b
 one_current slot0 slot1 a b is is' =
     is.is
     ∙ ap (λ first. newer first is.second) (one_saying 0 slot0 is.first is'.first is.says_first is'.says_first)

@@ -6,6 +6,7 @@
 
 ghost use Rattle.std.specs.Prelude.{◌≡◌, ◌≢◌, ◌<◌, ◌-◌, ◌^◌, length, MatchOption, Option, Some};
 ghost use Rattle.std.specs.Int.{w64, to_be_bytes};
+ghost use Rattle.block_host.specs.declared.block.Block.{Block};
 ghost use Rattle.meta_slots.specs.Slots.{IsCurrent, IsFollowing, IsSlot, Says, Slot, is_second, slot_bytes};
 
 use block_host::{Block, seal, unseal};
@@ -43,6 +44,11 @@ pub fn following(slot0: &Block, slot1: &Block, revision: u64) -> Option<(u64, Bl
     let (generation, _) = now?;
     Some((other, block_of(other, generation + 1, revision)))
 }
+
+/// Of two blocks one thing counts.
+pub fn current_is_one()
+    ensures { (slot0 slot1 : Block) (a b : Option Slot) → IsCurrent slot0 slot1 a → IsCurrent slot0 slot1 b → a ≡ b }
+{}
 
 // Whether slot 1 counts, of what the two slots say.
 fn counts_second(first: Option<(u64, u64)>, second: Option<(u64, u64)>) -> bool
