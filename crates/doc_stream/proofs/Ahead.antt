@@ -1,14 +1,12 @@
 -- How a block that breaks what is left of a range breaks the range: step by step backwards.
-use Rattle.std.proofs.Common.{◌≡◌, ◌≢◌, ◌⊎◌, inl, inr, ℕ, zero, suc, ◌+◌, ◌-◌, ◌<◌, ◌≤◌, List, [], ◌∷◌, ◌++◌, length, None, IsTrue, refl, sym, ◌∙◌, ap, subst, arith, length-append}
-use Rattle.std.proofs.lemmas.List.{nil_from_length}
+use Rattle.std.proofs.Common.{◌≡◌, ◌≢◌, ◌⊎◌, inl, inr, ℕ, suc, ◌+◌, ◌≤◌, List, [], ◌∷◌, ◌++◌, length, None, IsTrue, refl, sym, ◌∙◌, ap, subst, arith, length-append}
 use Rattle.block_host.specs.declared.block.Block.{Block}
 use Rattle.forest_model.specs.declared.stored.Rec.{Rec}
-use Rattle.doc_stream.specs.Broken.{AreShown, Begins, BreaksAt, BreaksRange, Leads, Precede}
+use Rattle.doc_stream.specs.Broken.{AreShown, Begins, BreaksRange, Leads, Precede}
 use Rattle.doc_stream.specs.OpenBlock.{address_of}
 use Rattle.forest_model.specs.Records.{record_bytes, is_record}
 use Rattle.doc_stream.specs.Runs.{Piece, RecordBlocks, Follows, Spreads, StartsAt, left}
-use Rattle.doc_stream.specs.Shown.{Asked, Shows, Stands, Unsealed, range_of}
-use Rattle.doc_stream.specs.Steps.{Place, in_hand}
+use Rattle.doc_stream.specs.Shown.{Asked, Shows, Stands}
 use Rattle.doc_stream.proofs.Before.{last_block}
 use Rattle.doc_stream.proofs.Blocks.{kept, left_left, passed, some_or_none}
 

@@ -1,8 +1,8 @@
 -- What a broken range or record tells of the blocks before: they are sealed or open.
-use Rattle.std.proofs.Common.{◌≡◌, ◌≢◌, ◌⊎◌, inl, inr, ℕ, zero, suc, ◌+◌, ◌/◌, ◌<◌, ◌≤◌, List, [], ◌∷◌, ◌++◌, length, None, refl, sym, ◌∙◌, ap, subst, arith}
+use Rattle.std.proofs.Common.{◌≡◌, inl, inr, ℕ, zero, suc, ◌+◌, ◌/◌, ◌≤◌, List, [], ◌∷◌, length, refl, sym, ◌∙◌, ap, subst, arith}
 use Rattle.block_host.specs.declared.block.Block.{Block}
 use Rattle.doc_stream.specs.Broken.{AreShown, Begins, BreaksAddress, BreaksAt, BreaksRange, Ends, piece_at}
-use Rattle.doc_stream.specs.Runs.{Piece, RecordBlocks, Follows, Spreads}
+use Rattle.doc_stream.specs.Runs.{Piece, RecordBlocks, Spreads}
 use Rattle.doc_stream.specs.Shown.{Asked, AreSealed, Shows, range_of}
 use Rattle.doc_stream.proofs.Blocks.{lt_or_le}
 

@@ -1,18 +1,18 @@
 -- What a range of blocks holds as records: it goes by these blocks, is one list, and stands at the addresses.
-use Rattle.std.proofs.Common.{◌≡◌, ◌≢◌, ◌⊎◌, inl, inr, ℕ, zero, suc, ◌+◌, ◌*◌, ◌/◌, ◌%◌, ◌^◌, ◌<◌, ◌≤◌, List, [], ◌∷◌, ◌++◌, length, take, drop, slice_get, Some, None, IsTrue, refl, sym, ◌∙◌, ap, subst, arith, append_assoc, length-append}
+use Rattle.std.proofs.Common.{◌≡◌, ◌≢◌, ◌⊎◌, inl, inr, ℕ, zero, suc, ◌+◌, ◌/◌, ◌%◌, ◌<◌, ◌≤◌, List, [], ◌∷◌, ◌++◌, length, drop, slice_get, Some, IsTrue, refl, sym, ◌∙◌, ap, subst, arith, append_assoc, length-append}
 use Rattle.std.specs.List.{AllByRecursion}
-use Rattle.std.proofs.lemmas.List.{append-nil, nil_from_length, take_at, drop_at}
+use Rattle.std.proofs.lemmas.List.{append-nil, nil_from_length, drop_at}
 use Rattle.std.proofs.lemmas.Option.{same_Some, none-some}
 use Rattle.block_host.specs.Sealed.{IsSealed}
 use Rattle.block_host.specs.declared.block.Block.{Block}
 use Rattle.forest_model.specs.declared.stored.Rec.{Rec}
-use Rattle.doc_stream.specs.OpenBlock.{OpenBlock, address_of}
-use Rattle.doc_stream.specs.Reading.{Holds, AreHeld, IsInside, from_offset, RecordAt}
+use Rattle.doc_stream.specs.OpenBlock.{OpenBlock}
+use Rattle.doc_stream.specs.Reading.{Holds, AreHeld, RecordAt}
 use Rattle.forest_model.specs.Records.{record_bytes, head_bytes, is_record}
-use Rattle.doc_stream.specs.Runs.{Piece, RecordBlocks, Follows, Spreads, StartsAt, AreRecords, RecordsOf, left}
-use Rattle.doc_stream.specs.Steps.{Stands}
+use Rattle.doc_stream.specs.Runs.{Piece, RecordBlocks, Spreads, StartsAt, AreRecords, RecordsOf, left}
+use Rattle.doc_stream.specs.Shown.{Stands}
 use Rattle.doc_stream.proofs.Blocks.{stands_once, some_or_none, kept, passed, left_left, lt_or_le}
-use Rattle.doc_stream.proofs.RecordBytes.{fits_record, head_once, behind_head, record_split, length-behind, length-head}
+use Rattle.doc_stream.proofs.RecordBytes.{fits_record, head_once, behind_head, front_of, record_split, same_rec, length-behind, length-head}
 use Rattle.doc_stream.proofs.Steps.{split_front}
 
 -- it goes by these blocks
@@ -93,21 +93,6 @@ spread_front a c (p ∷ ps) b1 b2 le one two = elim one [
 ]
 
 -- no record's bytes begin with another's
-front_of : (xs ys zs ws : List ℕ) → length xs ≡ length zs → xs ++ ys ≡ zs ++ ws → (xs ≡ zs) × (ys ≡ ws)
-front_of xs ys zs ws same is = (
-  sym (take_at xs ys (length xs) refl) ∙ ap (λ (l : List ℕ). take (length xs) l) is ∙ take_at zs ws (length xs) (sym same),
-  sym (drop_at xs ys (length xs) refl) ∙ ap (λ (l : List ℕ). drop (length xs) l) is ∙ drop_at zs ws (length xs) (sym same),
-)
-
-same_rec : (r s : Rec) → r.kind ≡ s.kind → r.store ≡ s.store → r.seq ≡ s.seq → length r.key ≡ length s.key → length r.meta ≡ length s.meta → behind_head r ≡ behind_head s → r ≡ s
-same_rec r s same_kind same_store same_seq same_key same_meta all =
-    let first = front_of r.key (r.meta ++ r.body) s.key (s.meta ++ s.body) same_key (sym (append_assoc r.key r.meta r.body) ∙ all ∙ append_assoc s.key s.meta s.body) in
-    let second = front_of r.meta r.body s.meta s.body same_meta first.1 in
-    let make : ℕ → ℕ → ℕ → List ℕ → List ℕ → List ℕ → Rec = λ k t q a b c. record { kind = k; store = t; seq = q; key = a; meta = b; body = c } in
-    ap (λ (k : ℕ). make k r.store r.seq r.key r.meta r.body) same_kind ∙ ap (λ (t : ℕ). make s.kind t r.seq r.key r.meta r.body) same_store
-    ∙ ap (λ (q : ℕ). make s.kind s.store q r.key r.meta r.body) same_seq ∙ ap (λ (a : List ℕ). make s.kind s.store s.seq a r.meta r.body) first.0
-    ∙ ap (λ (b : List ℕ). make s.kind s.store s.seq s.key b r.body) second.0 ∙ ap (λ (c : List ℕ). make s.kind s.store s.seq s.key s.meta c) second.1
-
 pub record_once : (r s : Rec) (more : List ℕ) → IsTrue (is_record r) → IsTrue (is_record s) → record_bytes s ≡ record_bytes r ++ more → (r ≡ s) × (length more ≡ 0)
 record_once r s more is is' e =
     let whole : head_bytes s ++ behind_head s ≡ head_bytes r ++ (behind_head r ++ more) =

@@ -3,7 +3,7 @@ use Rattle.std.proofs.Common.{◌≡◌, ◌≢◌, inl, inr, ℕ, ◌+◌, ◌-
 use Rattle.block_host.specs.declared.block.Block.{Block}
 use Rattle.doc_stream.specs.OpenBlock.{OpenBlock}
 use Rattle.doc_stream.specs.Runs.{Piece, Follows, Spreads}
-use Rattle.doc_stream.specs.Broken.{AreShown, Begins, EndsAt, Ends, IsLastAsked}
+use Rattle.doc_stream.specs.Broken.{AreShown, Begins, Ends, IsLastAsked}
 use Rattle.doc_stream.specs.Shown.{Asked, Shows, Unsealed}
 use Rattle.doc_stream.specs.Steps.{Place, in_hand, Following, IsWithin, SameBelow, Stretch, Turns, Takes, Stops}
 use Rattle.doc_stream.proofs.Blocks.{lt_or_le, same_less, same_back, shows_other, shows_once, Next, next_there, following_on}

@@ -1,4 +1,4 @@
-use Rattle.std.proofs.Common.{◌≡◌, ◌<◌, ◌-◌, ℕ, [], ◌∷◌, ◌++◌, length, inr, sym, ◌∙◌, arith, ap, subst}
+use Rattle.std.proofs.Common.{◌<◌, ◌-◌, ℕ, [], ◌∷◌, ◌++◌, length, inr, sym, ◌∙◌, arith, ap}
 use Rattle.std.proofs.lemmas.Result.{err_from_is_err_and}
 use Rattle.std.proofs.lemmas.List.{append-nil}
 use Rattle.doc_stream.specs.OpenBlock.{address_of}
