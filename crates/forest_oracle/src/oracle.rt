@@ -1,6 +1,7 @@
-ghost use Rattle.std.specs.Prelude.{◌≡◌, IfOk, OnErr};
+ghost use Rattle.std.specs.Prelude.{◌≡◌, None, IsTrue, IfOk, OnErr};
 ghost use Rattle.forest_model.specs.State as states;
-ghost use Rattle.forest_model.specs.Step.{step_with_room};
+ghost use Rattle.forest_model.specs.Step.{first_cause, step_with_room};
+ghost use Rattle.forest_oracle.specs.Memory.{takes_memory, causes_before_growth};
 
 use forest_model::{
     Bytes, Call, Commit, Documents, Limits, Refusal, Reply, Sequence, State, Store, StoreList,
@@ -82,11 +83,14 @@ impl Oracle {
         })
     }
 
-    /// One step where no file is full. A refused call is answered so; an `Err` is want of memory, and leaves the state.
+    /// One step where no file is full. A refused call is answered so; an `Err` is want of memory, leaves the state,
+    /// and comes only of a call that takes memory and that nothing refuses before it does.
     pub fn step(&mut self, call: &Call) -> Result<Reply, Refusal>
         ensures step { IfOk result (λ reply. (reply, self.new.state) ≡ step_with_room self.old.state call.now) }
         ensures err { OnErr result (self.new.state ≡ self.old.state) }
         ensures memory { OnErr result (result ≡ Err Refusal.NoMemory) }
+        ensures memory_needed { OnErr result (IsTrue (takes_memory self.old.state call.now)) }
+        ensures answered { OnErr result (first_cause (causes_before_growth self.old.state call.now) ≡ None) }
     {
         let alloc = self.alloc;
         let state = &mut self.state;

@@ -1,4 +1,4 @@
 mod Numbers
 mod Calls
 mod Lanes
-mod Telling
+mod Turns

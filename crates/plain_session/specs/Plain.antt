@@ -14,7 +14,7 @@ use Rattle.plain_session.specs.declared.lane.Lane.{Lane}
 use Rattle.plain_session.specs.declared.session.PlainSession.{PlainSession}
 use Rattle.plain_session.specs.declared.snapshot.Snapshot.{Snapshot}
 
--- the same snapshot, lane and copier, as the definitions have them; no file of the copier is full
+-- the same snapshot, lane and copier, as the definitions have them; the copier never fails
 abbrev pub snapshot_shown : Snapshot → sessions.Snapshot
 snapshot_shown s = record { place = s.place; stores = s.stores; documents = s.documents; commit = s.commit }
 
@@ -22,7 +22,7 @@ abbrev pub lane_shown : Lane → sessions.Lane
 lane_shown l = record { at = l.at; printed = l.printed; snapshot = option_map snapshot_shown l.snapshot }
 
 abbrev pub copier_shown : Copier → sessions.Copier
-copier_shown c = record { ticket = c.ticket; base = c.base; place = c.place; left = c.left; full = None }
+copier_shown c = record { ticket = c.ticket; base = c.base; place = c.place; left = c.left; failed = None }
 
 -- A session that a plain session shows: its state is the oracle's, each of its sixteen lanes is the lane of that number, and its copier is the copier.
 pub record Shows (p : PlainSession) (w : sessions.Session) : Type 0 where
@@ -36,20 +36,20 @@ IsRoomFor w file None = Unit {0}
 IsRoomFor w file (Some call) = step_of w.state file call ≡ step_with_room w.state call
 
 abbrev pub HasRoom : sessions.Session → File → Line → Type 0
-HasRoom w file line = IsRoomFor w file (sessions.call_of (w.lanes line.lane) w.copier line.verb)
+HasRoom w file line = IsRoomFor w file (sessions.call_in w line)
 
--- the place and the answer that a lane's snapshot gives a line, and the lane after it
-abbrev pub told_of_lane : sessions.Lane → Verb → ℕ × Said
-told_of_lane lane verb = option_map_or (λ s. (s.place, sessions.shown s lane.at verb)) lane.snapshot (lane.printed, sessions.not_shown verb)
+-- what a line on the lane's snapshot is told, with its place, and the lane after it
+abbrev pub said_by_lane : sessions.Lane → Verb → ℕ × Said
+said_by_lane lane verb = option_map_or (λ s. (s.place, sessions.shown s lane.at verb)) lane.snapshot (lane.printed, sessions.not_shown verb)
 
-abbrev pub lane_told : sessions.Lane → Verb → sessions.Lane
-lane_told lane verb = option_map_or (λ s. record lane { printed = s.place; snapshot = if sessions.is_close verb then None else Some s }) lane.snapshot lane
+abbrev pub lane_after_line : sessions.Lane → Verb → sessions.Lane
+lane_after_line lane verb = option_map_or (λ s. record lane { printed = s.place; snapshot = if sessions.is_close verb then None else Some s }) lane.snapshot lane
 
--- a plain session shows the session that a line leaves, and tells what the line tells
-abbrev pub IsTold : PlainSession → sessions.Telling → Told → Type 0
-IsTold p telling t = (telling.1 ≡ t) × Shows p telling.0
+-- a plain session shows the session that a turn leaves, and the line is told what the turn tells
+abbrev pub ShowsTurn : PlainSession → sessions.Turn → Told → Type 0
+ShowsTurn p turn t = (turn.1 ≡ t) × Shows p turn.0
 
--- the same of a line that may tell nothing, and then leaves the session as it was
-abbrev pub AreTold : PlainSession → sessions.Session → Option sessions.Telling → Option Told → Type 0
-AreTold p w telling None = (telling ≡ None) × Shows p w
-AreTold p w telling (Some t) = (next : sessions.Session) × (telling ≡ Some (next, t)) × Shows p next
+-- the same of a line that may be told nothing, and then leaves the session as it was
+abbrev pub ShowsTurnIfAny : PlainSession → sessions.Session → Option sessions.Turn → Option Told → Type 0
+ShowsTurnIfAny p w turn None = (turn ≡ None) × Shows p w
+ShowsTurnIfAny p w turn (Some t) = (next : sessions.Session) × (turn ≡ Some (next, t)) × Shows p next

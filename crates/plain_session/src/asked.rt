@@ -1,7 +1,8 @@
 ghost use Rattle.std.specs.Prelude.{◌≡◌, ℕ, true, false, Option};
 ghost use Rattle.std.specs.Option.{option_map};
+ghost use Rattle.forest_model.specs.Session as sessions;
 ghost use Rattle.forest_model.specs.Session.{Snapshot, copier_ticket, copier_left};
-ghost use Rattle.plain_session.specs.Calls.{Asks, is_of_documents, said_by};
+ghost use Rattle.plain_session.specs.Calls.{Asks, is_of_documents};
 ghost use Rattle.plain_session.specs.Plain.{copier_shown};
 
 use crate::lane::Copier;
@@ -77,9 +78,9 @@ fn asked_of_file(at: StoreRef, copier: Option<Copier>, verb: Verb) -> Asked
     })
 }
 
-/// How the reply of a call is told.
+/// How the reply of a call is said.
 pub(crate) fn said_of(call: &Call, reply: Reply) -> Said
-    ensures { result ≡ said_by call.now reply }
+    ensures { result ≡ sessions.said_of call.now reply }
 {
     match reply {
         Reply::Seq { seq } => match call {

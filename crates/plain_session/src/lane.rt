@@ -1,12 +1,13 @@
-ghost use Rattle.std.specs.Prelude.{◌≡◌, ℕ, Option, Some, None, IfOk, OnOk, OnErr};
+ghost use Rattle.std.specs.Prelude.{◌≡◌, ℕ, Option, Some, None, IsTrue, IfOk, OnOk, OnErr};
 ghost use Rattle.std.specs.Option.{option_map};
 ghost use Rattle.forest_model.specs.Session.{Session};
 ghost use Rattle.forest_model.specs.Session as sessions;
+ghost use Rattle.forest_model.specs.declared.call.Call.{Call};
 ghost use Rattle.forest_model.specs.declared.call.Reply.TheVariants as Reply;
 ghost use Rattle.forest_model.specs.declared.line.Line.{Line};
-ghost use Rattle.forest_model.specs.declared.line.Verb.{Verb};
 ghost use Rattle.forest_model.specs.declared.state.State.{State};
-ghost use Rattle.plain_session.specs.Plain.{lane_shown, copier_shown, snapshot_shown, told_of_lane, lane_told};
+ghost use Rattle.plain_session.specs.Memory.{is_copy};
+ghost use Rattle.plain_session.specs.Plain.{lane_shown, copier_shown, snapshot_shown, said_by_lane, lane_after_line};
 
 use crate::snapshot::{Snapshot, not_shown};
 use forest_model::{Refusal, Reply, Said, State, StoreRef, Verb};
@@ -47,8 +48,8 @@ impl Lane {
 
     /// Brings the lane to what a reply at a place leaves; where it says so, with the snapshot that was opened.
     pub(crate) fn note(&mut self, reply: &Reply, place: u64, opened: Option<Snapshot>)
-        ensures { (verb : Verb) (s : State) → s.place ≡ place → (reply.now ≡ Reply.Snapped → option_map snapshot_shown opened ≡ sessions.opened_snapshot (lane_shown self.old) verb s)
-            → lane_shown self.new ≡ sessions.lane_after (lane_shown self.old) verb reply.now s }
+        ensures { (call : Call) (s : State) → s.place ≡ place → (reply.now ≡ Reply.Snapped → option_map snapshot_shown opened ≡ sessions.opened_snapshot call s)
+            → lane_shown self.new ≡ sessions.lane_after (lane_shown self.old) call reply.now s }
     {
         match reply {
             Reply::Store { at } => self.at = *at,
@@ -60,7 +61,8 @@ impl Lane {
 
     // What a line on the lane's snapshot is told, at the snapshot's place or the one that the lane printed last.
     fn shows(&self, alloc: Global, verb: &Verb) -> Result<(u64, Said), AllocError>
-        ensures { IfOk result (λ told. told ≡ told_of_lane (lane_shown self.now) verb.now) }
+        ensures said { IfOk result (λ said. said ≡ said_by_lane (lane_shown self.now) verb.now) }
+        ensures copies { OnErr result (IsTrue (is_copy (said_by_lane (lane_shown self.now) verb.now).1)) }
     {
         match &self.snapshot {
             Some(snapshot) => Ok((snapshot.place, snapshot.shows(alloc, self.at, verb)?)),
@@ -70,7 +72,7 @@ impl Lane {
 
     // The place is the one that was printed last, and a snapshot that is closed is gone.
     fn print(&mut self, verb: &Verb, place: u64)
-        ensures { (told_of_lane (lane_shown self.old) verb.now).0 ≡ place → lane_shown self.new ≡ lane_told (lane_shown self.old) verb.now }
+        ensures { (said_by_lane (lane_shown self.old) verb.now).0 ≡ place → lane_shown self.new ≡ lane_after_line (lane_shown self.old) verb.now }
     {
         self.printed = place;
         if matches!(verb, Verb::SnapClose) {
@@ -80,9 +82,10 @@ impl Lane {
 
     /// Runs a line on the lane's snapshot: the place and what is told there.
     pub(crate) fn tell(&mut self, alloc: Global, verb: &Verb) -> Result<(u64, Said), AllocError>
-        ensures told { IfOk result (λ told. told ≡ told_of_lane (lane_shown self.old) verb.now) }
-        ensures after { OnOk result (lane_shown self.new ≡ lane_told (lane_shown self.old) verb.now) }
+        ensures said { IfOk result (λ said. said ≡ said_by_lane (lane_shown self.old) verb.now) }
+        ensures after { OnOk result (lane_shown self.new ≡ lane_after_line (lane_shown self.old) verb.now) }
         ensures err { OnErr result (lane_shown self.new ≡ lane_shown self.old) }
+        ensures copies { OnErr result (IsTrue (is_copy (said_by_lane (lane_shown self.old) verb.now).1)) }
     {
         let (place, said) = self.shows(alloc, verb)?;
         self.print(verb, place);
@@ -109,7 +112,7 @@ pub(crate) fn copier_after(copier: Option<Copier>, reply: &Reply, state: &State)
 /// Copies so many documents more: the place and what is told there.
 pub(crate) fn copy(copier: &mut Option<Copier>, state: &State, count: u64) -> (u64, Said)
     ensures { (w : Session) (line : Line) → w.state ≡ state.now → w.copier ≡ option_map copier_shown copier.old
-        → sessions.told_by_copier w line count w.copier ≡ sessions.telling_at w line (option_map copier_shown copier.new) result.0 result.1 }
+        → sessions.turn_by_copier w line count w.copier ≡ sessions.turn_at w line (option_map copier_shown copier.new) result.0 result.1 }
 {
     let Some(before) = *copier else {
         let why = Refusal::NoTicket {

@@ -1,11 +1,11 @@
-ghost use Rattle.std.specs.Prelude.{◌≡◌, is_none, IfOk, OnErr};
+ghost use Rattle.std.specs.Prelude.{◌≡◌, is_none, IsTrue, IfOk, OnErr};
 ghost use Rattle.std.specs.Option.{option_map};
 ghost use Rattle.forest_model.specs.Session as sessions;
 ghost use Rattle.forest_model.specs.Stores.{store_of};
 ghost use Rattle.forest_model.specs.declared.call.Reply.TheVariants as Reply;
 ghost use Rattle.forest_model.specs.declared.line.Said.TheVariants as Said;
 ghost use Rattle.forest_model.specs.declared.line.Verb.TheVariants as Verb;
-ghost use Rattle.plain_session.specs.Calls.{opened_by};
+ghost use Rattle.plain_session.specs.Memory.{is_copy};
 ghost use Rattle.plain_session.specs.Plain.{snapshot_shown};
 
 use crate::lists::{by_key, by_seq};
@@ -73,7 +73,8 @@ impl Snapshot {
     }
 
     fn get(&self, at: StoreRef, key: &Bytes) -> Result<Said, AllocError>
-        ensures { IfOk result (λ said. said ≡ sessions.shown (snapshot_shown self.now) at (Verb.SnapGet key.now)) }
+        ensures said { IfOk result (λ said. said ≡ sessions.shown (snapshot_shown self.now) at (Verb.SnapGet key.now)) }
+        ensures copies { OnErr result (IsTrue (is_copy (sessions.shown (snapshot_shown self.now) at (Verb.SnapGet key.now)))) }
     {
         if is_wrong_key(key) {
             return Ok(refused(Refusal::KeyLength));
@@ -81,7 +82,7 @@ impl Snapshot {
         if self.has_no_store(at) {
             return Ok(refused(Refusal::NoStore));
         }
-        match doc_at(&self.documents, at.store, key)? {
+        match doc_at(&self.documents, at.store, key) {
             Some(doc) => Ok(Said::Got {
                 found: found_of(key, doc)?,
             }),
@@ -90,7 +91,8 @@ impl Snapshot {
     }
 
     fn numbered(&self, at: StoreRef, seq: u64) -> Result<Said, AllocError>
-        ensures { IfOk result (λ said. said ≡ sessions.shown (snapshot_shown self.now) at (Verb.SnapBySeq seq)) }
+        ensures said { IfOk result (λ said. said ≡ sessions.shown (snapshot_shown self.now) at (Verb.SnapBySeq seq)) }
+        ensures copies { OnErr result (IsTrue (is_copy (sessions.shown (snapshot_shown self.now) at (Verb.SnapBySeq seq)))) }
     {
         if self.has_no_store(at) {
             return Ok(refused(Refusal::NoStore));
@@ -111,7 +113,8 @@ impl Snapshot {
         from: &Bytes,
         count: u64,
     ) -> Result<Said, AllocError>
-        ensures { IfOk result (λ said. said ≡ sessions.shown (snapshot_shown self.now) at (Verb.Scan up from.now count)) }
+        ensures said { IfOk result (λ said. said ≡ sessions.shown (snapshot_shown self.now) at (Verb.Scan up from.now count)) }
+        ensures copies { OnErr result (IsTrue (is_copy (sessions.shown (snapshot_shown self.now) at (Verb.Scan up from.now count)))) }
     {
         if from.len() > 3500 {
             return Ok(refused(Refusal::KeyLength));
@@ -132,7 +135,8 @@ impl Snapshot {
         from: u64,
         count: u64,
     ) -> Result<Said, AllocError>
-        ensures { IfOk result (λ said. said ≡ sessions.shown (snapshot_shown self.now) at (Verb.Seqs up from count)) }
+        ensures said { IfOk result (λ said. said ≡ sessions.shown (snapshot_shown self.now) at (Verb.Seqs up from count)) }
+        ensures copies { OnErr result (IsTrue (is_copy (sessions.shown (snapshot_shown self.now) at (Verb.Seqs up from count)))) }
     {
         if self.has_no_store(at) {
             return Ok(refused(Refusal::NoStore));
@@ -144,7 +148,8 @@ impl Snapshot {
 
     /// What a line of a lane at a store is told.
     pub(crate) fn shows(&self, alloc: Global, at: StoreRef, verb: &Verb) -> Result<Said, AllocError>
-        ensures { IfOk result (λ said. said ≡ sessions.shown (snapshot_shown self.now) at verb.now) }
+        ensures said { IfOk result (λ said. said ≡ sessions.shown (snapshot_shown self.now) at verb.now) }
+        ensures copies { OnErr result (IsTrue (is_copy (sessions.shown (snapshot_shown self.now) at verb.now))) }
     {
         match verb {
             Verb::SnapGet { key } => self.get(at, key),
@@ -158,7 +163,7 @@ impl Snapshot {
 
 // The snapshot that a call opens: of the commit that it names, or of the state now.
 fn opened(alloc: Global, state: &State, call: &Call) -> Result<Option<Snapshot>, AllocError>
-    ensures { IfOk result (λ opened. option_map snapshot_shown opened ≡ opened_by call.now state.now) }
+    ensures { IfOk result (λ opened. option_map snapshot_shown opened ≡ sessions.opened_snapshot call.now state.now) }
 {
     let Call::SnapAt { at, seq } = call else {
         return Ok(Some(Snapshot::latest(alloc, state)?));
@@ -176,7 +181,7 @@ pub(crate) fn opened_for(
     call: &Call,
     reply: &Reply,
 ) -> Result<Option<Snapshot>, AllocError>
-    ensures ok { IfOk result (λ opened. reply.now ≡ Reply.Snapped → option_map snapshot_shown opened ≡ opened_by call.now state.now) }
+    ensures ok { IfOk result (λ opened. reply.now ≡ Reply.Snapped → option_map snapshot_shown opened ≡ sessions.opened_snapshot call.now state.now) }
     ensures err { OnErr result (reply.now ≡ Reply.Snapped) }
 {
     match reply {

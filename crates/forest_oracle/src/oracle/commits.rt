@@ -1,4 +1,4 @@
-ghost use Rattle.std.specs.Prelude.{◌≡◌, ◌+◌, ◌%◌, ◌^◌, ◌<◌, ◌∷◌, false, Some, IfOk, IfSome, IfNone, OnOk, OnErr};
+ghost use Rattle.std.specs.Prelude.{◌≡◌, ◌+◌, ◌%◌, ◌^◌, ◌<◌, ◌∷◌, false, Some, None, IfOk, IfSome, IfNone, OnOk, OnErr};
 ghost use Rattle.std.specs.Option.{option_map};
 ghost use Rattle.forest_model.specs.Step as steps;
 ghost use Rattle.forest_model.specs.Stores as stores;
@@ -78,6 +78,8 @@ pub(super) fn commit(alloc: Global, state: &mut State, at: StoreRef) -> Result<R
     ensures step { IfOk result (λ reply. (reply, state.new) ≡ step_with_room state.old (calls.Commit at)) }
     ensures err { OnErr result (state.new ≡ state.old) }
     ensures memory { OnErr result (result ≡ Err Refusal.NoMemory) }
+    ensures answered { OnErr result (first_cause (causes state.old (calls.Commit at)) ≡ None) }
+    ensures grows { OnErr result (states.nothing_new state.old ≡ false) }
 {
     if let Some(why) = why_not_commit(state, at) {
         return Ok(Reply::Refused { why });
@@ -160,6 +162,8 @@ pub(super) fn roll_back(
     ensures step { IfOk result (λ reply. (reply, state.new) ≡ step_with_room state.old (calls.Rollback at number)) }
     ensures err { OnErr result (state.new ≡ state.old) }
     ensures memory { OnErr result (result ≡ Err Refusal.NoMemory) }
+    ensures answered { OnErr result (first_cause (causes state.old (calls.Rollback at number)) ≡ None) }
+    ensures grows { OnErr result (steps.is_at state.old number ≡ false) }
 {
     if let Some(why) = why_not_roll_back(state, at, number) {
         return Ok(Reply::Refused { why });

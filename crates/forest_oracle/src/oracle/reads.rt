@@ -1,4 +1,4 @@
-ghost use Rattle.std.specs.Prelude.{◌≡◌, map, reverse, IfOk, OnErr};
+ghost use Rattle.std.specs.Prelude.{◌≡◌, map, reverse, None, IfOk, OnErr};
 ghost use Rattle.forest_model.specs.State.{retained};
 ghost use Rattle.forest_model.specs.Step.{first_cause, causes, step_with_room, found_of, ticket_of};
 ghost use Rattle.forest_model.specs.declared.call.Call.TheVariants as calls;
@@ -30,29 +30,30 @@ pub fn ticket_of(state: &State) -> u64
     }
 }
 
-fn why_not_get(state: &State, at: StoreRef, key: &Bytes) -> Result<Option<Refusal>, AllocError>
-    ensures { IfOk result (λ why. why ≡ first_cause (causes state.now (calls.Get at key.now))) }
+fn why_not_get(state: &State, at: StoreRef, key: &Bytes) -> Option<Refusal>
+    ensures { result ≡ first_cause (causes state.now (calls.Get at key.now)) }
 {
     if is_wrong_key(key) {
-        return Ok(Some(Refusal::KeyLength));
+        return Some(Refusal::KeyLength);
     }
     if store_of(state.stores.as_slice(), at.store).is_none() {
-        return Ok(Some(Refusal::NoStore));
+        return Some(Refusal::NoStore);
     }
-    if doc_at(&state.documents, at.store, key)?.is_none() {
-        return Ok(Some(Refusal::NotFound));
+    if doc_at(&state.documents, at.store, key).is_none() {
+        return Some(Refusal::NotFound);
     }
-    Ok(None)
+    None
 }
 
 pub(super) fn get(state: &State, at: StoreRef, key: &Bytes) -> Result<Reply, Refusal>
     ensures answer { IfOk result (λ reply. (reply, state.now) ≡ step_with_room state.now (calls.Get at key.now)) }
     ensures memory { OnErr result (result ≡ Err Refusal.NoMemory) }
+    ensures answered { OnErr result (first_cause (causes state.now (calls.Get at key.now)) ≡ None) }
 {
-    if let Some(why) = why_not_get(state, at, key)? {
+    if let Some(why) = why_not_get(state, at, key) {
         return Ok(Reply::Refused { why });
     }
-    match doc_at(&state.documents, at.store, key)? {
+    match doc_at(&state.documents, at.store, key) {
         Some(doc) => Ok(Reply::Document {
             found: found_of(key, doc)?,
         }),
@@ -77,6 +78,7 @@ fn why_not_by_seq(state: &State, at: StoreRef, seq: u64) -> Option<Refusal>
 pub(super) fn by_seq(state: &State, at: StoreRef, seq: u64) -> Result<Reply, Refusal>
     ensures answer { IfOk result (λ reply. (reply, state.now) ≡ step_with_room state.now (calls.BySeq at seq)) }
     ensures memory { OnErr result (result ≡ Err Refusal.NoMemory) }
+    ensures answered { OnErr result (first_cause (causes state.now (calls.BySeq at seq)) ≡ None) }
 {
     if let Some(why) = why_not_by_seq(state, at, seq) {
         return Ok(Reply::Refused { why });

@@ -1,4 +1,4 @@
-ghost use Rattle.std.specs.Prelude.{◌≡◌, ◌+◌, ◌%◌, ◌^◌, ◌<◌, ◌++◌, ◌∷◌, [], true, false, is_none, codes, nat_eq, IfOk, IfNone, OnErr};
+ghost use Rattle.std.specs.Prelude.{◌≡◌, ◌+◌, ◌%◌, ◌^◌, ◌<◌, ◌++◌, ◌∷◌, [], true, false, None, is_none, codes, nat_eq, IfOk, IfNone, OnErr};
 ghost use Rattle.std.specs.Cmp.Lexicographic.{pointwise};
 ghost use Rattle.forest_model.specs.Documents.{without_store};
 ghost use Rattle.forest_model.specs.declared.call.Reply.TheVariants as Reply;
@@ -65,6 +65,8 @@ pub(super) fn open(state: &mut State, name: &Bytes, read_only: bool) -> Result<R
     ensures step { IfOk result (λ reply. (reply, state.new) ≡ step_with_room state.old (calls.StoreOpen name.now read_only)) }
     ensures err { OnErr result (state.new ≡ state.old) }
     ensures memory { OnErr result (result ≡ Err Refusal.NoMemory) }
+    ensures answered { OnErr result (first_cause (causes state.old (calls.StoreOpen name.now read_only)) ≡ None) }
+    ensures grows { OnErr result (is_none (stores.store_named state.old.stores name.now) ≡ true) }
 {
     if let Some(why) = why_not_open(state, name, read_only) {
         return Ok(Reply::Refused { why });

@@ -1,5 +1,7 @@
 ghost use Rattle.std.specs.Prelude.{◌≡◌, ◌==◌, ◌∷◌, Some, is_some, find, IfOk, IsSome};
-ghost use Rattle.forest_model.specs.Documents.{doc_at};
+ghost use Rattle.std.specs.Ordering.{is_eq};
+ghost use Rattle.forest_model.specs.Documents.{doc_at, key_at};
+ghost use Rattle.forest_model.specs.Key.{key_cmp};
 ghost use Rattle.std.specs.Option.{option_copied, option_map};
 ghost use Rattle.forest_model.specs.Stores as stores;
 
@@ -31,19 +33,23 @@ pub(super) fn seq_of(table: &[Store], id: u64) -> u64
     }
 }
 
-/// The document of a store's key. An `Err` is want of memory, for the place that is looked up.
-pub fn doc_at<'a>(
-    documents: &'a Documents,
-    store: u64,
-    key: &Bytes,
-) -> Result<Option<&'a Doc>, AllocError>
-    ensures { IfOk result (λ doc. option_copied doc ≡ doc_at documents.now store key.now) }
+fn is_at(place: &DocKey, store: u64, key: &Bytes) -> bool
+    ensures { result ≡ is_eq (key_cmp (key_at store key.now) place.now) }
 {
-    let place = DocKey {
-        store,
-        key: key.clone()?,
-    };
-    Ok(documents.get(&place))
+    store.cmp(&place.store).then(key.cmp(&place.key)).is_eq()
+}
+
+/// The document of a store's key. It takes no memory.
+#[tactic(auto, using(crate::proofs::Places::found_first))]
+pub fn doc_at<'a>(documents: &'a Documents, store: u64, key: &Bytes) -> Option<&'a Doc>
+    ensures { option_copied result ≡ doc_at documents.now store key.now }
+{
+    for (place, doc) in documents.iter() {
+        if is_at(place, store, key) {
+            return Some(doc);
+        }
+    }
+    None
 }
 
 // ---- changes of the table of stores

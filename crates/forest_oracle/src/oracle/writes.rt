@@ -4,6 +4,7 @@ ghost use Rattle.forest_model.specs.declared.refusal.Refusal.TheVariants.{NotFou
 ghost use Rattle.forest_model.specs.Documents as docs;
 ghost use Rattle.forest_model.specs.Stores as stores;
 ghost use Rattle.forest_model.specs.declared.call.Call.TheVariants as calls;
+ghost use Rattle.forest_oracle.specs.Memory.{causes_before_growth};
 
 use super::limits::{any_wrong_body, any_wrong_key, is_worn, is_wrong_body, is_wrong_key};
 use super::tables::{doc_at, seq_of, set_seq, store_of};
@@ -86,6 +87,7 @@ pub(super) fn set(
     ensures step { IfOk result (λ reply. (reply, state.new) ≡ step_with_room state.old (calls.Set at key.now meta.now body.now)) }
     ensures err { OnErr result (state.new ≡ state.old) }
     ensures memory { OnErr result (result ≡ Err Refusal.NoMemory) }
+    ensures answered { OnErr result (first_cause (causes state.old (calls.Set at key.now meta.now body.now)) ≡ None) }
 {
     if let Some(why) = why_not_set(state, at, key, meta, body) {
         return Ok(Reply::Refused { why });
@@ -106,26 +108,26 @@ pub(super) fn set(
     Ok(Reply::Seq { seq })
 }
 
-fn why_not_delete(state: &State, at: StoreRef, key: &Bytes) -> Result<Option<Refusal>, AllocError>
-    ensures why { IfOk result (λ why. why ≡ first_cause (causes state.now (calls.Delete at key.now))) }
-    ensures room { IfOk result (λ why. IfNone why ((stores.seq_of state.now.stores at.store < 2 ^ 62) × (state.now.place < 2 ^ 62))) }
+fn why_not_delete(state: &State, at: StoreRef, key: &Bytes) -> Option<Refusal>
+    ensures why { result ≡ first_cause (causes state.now (calls.Delete at key.now)) }
+    ensures room { IfNone result ((stores.seq_of state.now.stores at.store < 2 ^ 62) × (state.now.place < 2 ^ 62)) }
 {
     if at.read_only {
-        return Ok(Some(Refusal::ReadOnly));
+        return Some(Refusal::ReadOnly);
     }
     if is_wrong_key(key) {
-        return Ok(Some(Refusal::KeyLength));
+        return Some(Refusal::KeyLength);
     }
     if store_of(state.stores.as_slice(), at.store).is_none() {
-        return Ok(Some(Refusal::NoStore));
+        return Some(Refusal::NoStore);
     }
     if is_worn(seq_of(state.stores.as_slice(), at.store), 1) || is_worn(state.place, 1) {
-        return Ok(Some(Refusal::Worn));
+        return Some(Refusal::Worn);
     }
-    if doc_at(&state.documents, at.store, key)?.is_none() {
-        return Ok(Some(Refusal::NotFound));
+    if doc_at(&state.documents, at.store, key).is_none() {
+        return Some(Refusal::NotFound);
     }
-    Ok(None)
+    None
 }
 
 pub(super) fn delete(
@@ -137,8 +139,9 @@ pub(super) fn delete(
     ensures step { IfOk result (λ reply. (reply, state.new) ≡ step_with_room state.old (calls.Delete at key.now)) }
     ensures err { OnErr result (state.new ≡ state.old) }
     ensures memory { OnErr result (result ≡ Err Refusal.NoMemory) }
+    ensures answered { OnErr result (first_cause (causes state.old (calls.Delete at key.now)) ≡ None) }
 {
-    if let Some(why) = why_not_delete(state, at, key)? {
+    if let Some(why) = why_not_delete(state, at, key) {
         return Ok(Reply::Refused { why });
     }
     let seq = seq_of(state.stores.as_slice(), at.store) + 1;
@@ -206,6 +209,7 @@ fn after_items(
 
 fn why_not_batch(state: &State, at: StoreRef, items: &Items) -> Option<Refusal>
     ensures why { IfSome result (λ why. Some why ≡ first_cause (causes state.now (calls.Batch at items.now))) }
+    ensures before_growth { result ≡ first_cause (causes_before_growth state.now (calls.Batch at items.now)) }
     ensures last_cause { IfNone result (first_cause (causes state.now (calls.Batch at items.now)) ≡ first_cause ((NotFound where_holds is_none (docs.after_items at.store items.now (stores.seq_of state.now.stores at.store) state.now.documents)) ∷ [])) }
     ensures room { IfNone result ((stores.seq_of state.now.stores at.store + length items.now < 2 ^ 62) × (state.now.place < 2 ^ 62)) }
 {
@@ -237,6 +241,7 @@ pub(super) fn batch(
     ensures step { IfOk result (λ reply. (reply, state.new) ≡ step_with_room state.old (calls.Batch at items.now)) }
     ensures err { OnErr result (state.new ≡ state.old) }
     ensures memory { OnErr result (result ≡ Err Refusal.NoMemory) }
+    ensures answered { OnErr result (first_cause (causes_before_growth state.old (calls.Batch at items.now)) ≡ None) }
 {
     if let Some(why) = why_not_batch(state, at, items) {
         return Ok(Reply::Refused { why });

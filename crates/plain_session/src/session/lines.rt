@@ -1,11 +1,13 @@
-ghost use Rattle.std.specs.Prelude.{◌≡◌, ◌<◌, ℕ, Some, None, Err, vec_len, slice_get, IfOk, OnErr};
+ghost use Rattle.std.specs.Prelude.{◌≡◌, ◌<◌, ℕ, Some, None, Err, vec_len, slice_get, IsTrue, IfOk, OnErr};
 ghost use Rattle.std.specs.Option.{option_map};
 ghost use Rattle.forest_model.specs.Blocks.{File};
-ghost use Rattle.forest_model.specs.Session.{Session, first_lane, first_session, call_of, told, told_aside, told_by_file, told_by_snapshot, told_by_copier};
-ghost use Rattle.forest_model.specs.Step.{step_with_room};
+ghost use Rattle.forest_model.specs.Session.{Session, first_lane, first_session, turn_of, turn_aside, turn_by_file, turn_by_snapshot, turn_by_copier};
+ghost use Rattle.forest_model.specs.Step.{first_cause, step_with_room};
 ghost use Rattle.forest_model.specs.declared.line.Verb.{Verb};
 ghost use Rattle.forest_model.specs.declared.refusal.Refusal.TheVariants as Refusal;
-ghost use Rattle.plain_session.specs.Plain.{Shows, HasRoom, AreTold, IsTold, lane_shown};
+ghost use Rattle.forest_oracle.specs.Memory.{causes_before_growth};
+ghost use Rattle.plain_session.specs.Memory.{IsCallAnswered, call_takes_memory, line_takes_memory, is_copy};
+ghost use Rattle.plain_session.specs.Plain.{Shows, HasRoom, ShowsTurn, ShowsTurnIfAny, lane_shown, said_by_lane};
 
 use super::PlainSession;
 use crate::asked::{Asked, asked_of, said_of};
@@ -43,13 +45,16 @@ impl PlainSession {
         })
     }
 
-    /// Runs a line: what is told for it, and none for the server's line `compact`.
+    /// Runs a line: what is told for it, and none for the server's line `compact`. An `Err` is want of memory, and comes
+    /// only of a line that takes memory and that nothing refuses before it does.
     pub fn tell(&mut self, line: Line) -> Result<Option<Told>, Refusal>
         requires lane { line.lane < 16 }
         ensures tells { (w : Session) (file : File) → Shows self.old w → HasRoom w file line
-            → IfOk result (AreTold self.new w (told w file line)) }
+            → IfOk result (ShowsTurnIfAny self.new w (turn_of w file line)) }
         ensures kept { OnErr result ((w : Session) → Shows self.old w → Shows self.new w) }
         ensures memory { OnErr result (result ≡ Err Refusal.NoMemory) }
+        ensures memory_needed { (w : Session) → Shows self.old w → OnErr result (IsTrue (line_takes_memory w line)) }
+        ensures answered { (w : Session) → Shows self.old w → OnErr result (IsCallAnswered w line) }
     {
         let Line { lane, verb } = line;
         let at = self.lanes[lane as usize].at;
@@ -62,9 +67,10 @@ impl PlainSession {
     // Runs a line that makes no call.
     fn tell_aside(&mut self, lane: u8, verb: Verb) -> Result<Option<Told>, Refusal>
         requires lane { lane < 16 }
-        ensures tells { (w : Session) → Shows self.old w → IfOk result (AreTold self.new w (told_aside w (record { lane = lane; verb = verb }) verb)) }
+        ensures tells { (w : Session) → Shows self.old w → IfOk result (ShowsTurnIfAny self.new w (turn_aside w (record { lane = lane; verb = verb }) verb)) }
         ensures kept { OnErr result ((w : Session) → Shows self.old w → Shows self.new w) }
         ensures memory { OnErr result (result ≡ Err Refusal.NoMemory) }
+        ensures copies { (w : Session) → Shows self.old w → OnErr result (IsTrue (is_copy (said_by_lane (w.lanes lane) verb).1)) }
     {
         match verb {
             Verb::Compact => Ok(None),
@@ -74,12 +80,15 @@ impl PlainSession {
     }
 
     // Runs a call of a lane.
+    #[tactic(auto, using(crate::proofs::Calls::at_least))]
     fn tell_by_file(&mut self, lane: u8, call: &Call) -> Result<Told, Refusal>
         requires lane { lane < 16 }
-        ensures tells { (w : Session) (verb : Verb) → Shows self.old w → call_of (w.lanes lane) w.copier verb ≡ Some call.now
-            → IfOk result (IsTold self.new (told_by_file w (record { lane = lane; verb = verb }) (step_with_room w.state call.now))) }
+        ensures tells { (w : Session) (verb : Verb) → Shows self.old w
+            → IfOk result (ShowsTurn self.new (turn_by_file w (record { lane = lane; verb = verb }) call.now (step_with_room w.state call.now))) }
         ensures kept { OnErr result ((w : Session) → Shows self.old w → Shows self.new w) }
         ensures memory { OnErr result (result ≡ Err Refusal.NoMemory) }
+        ensures memory_needed { OnErr result (IsTrue (call_takes_memory self.old.oracle.state call.now)) }
+        ensures answered { OnErr result (first_cause (causes_before_growth self.old.oracle.state call.now) ≡ None) }
     {
         let reply = self.oracle.step(call)?;
         let opened = opened_for(self.alloc, &self.oracle.state, call, &reply)?;
@@ -96,7 +105,7 @@ impl PlainSession {
     // Copies so many documents more.
     fn tell_by_copier(&mut self, lane: u8, count: u64) -> Told
         requires lane { lane < 16 }
-        ensures { (w : Session) (verb : Verb) → Shows self.old w → IsTold self.new (told_by_copier w (record { lane = lane; verb = verb }) count w.copier) result }
+        ensures { (w : Session) (verb : Verb) → Shows self.old w → ShowsTurn self.new (turn_by_copier w (record { lane = lane; verb = verb }) count w.copier) result }
     {
         let (place, said) = copy(&mut self.copier, &self.oracle.state, count);
         self.lanes[lane as usize].printed = place;
@@ -107,9 +116,10 @@ impl PlainSession {
     fn tell_by_snapshot(&mut self, lane: u8, verb: &Verb) -> Result<Told, Refusal>
         requires lane { lane < 16 }
         ensures tells { (w : Session) → Shows self.old w
-            → IfOk result (IsTold self.new (told_by_snapshot w (record { lane = lane; verb = verb.now }) (w.lanes lane).snapshot)) }
+            → IfOk result (ShowsTurn self.new (turn_by_snapshot w (record { lane = lane; verb = verb.now }) (w.lanes lane).snapshot)) }
         ensures kept { OnErr result ((w : Session) → Shows self.old w → Shows self.new w) }
         ensures memory { OnErr result (result ≡ Err Refusal.NoMemory) }
+        ensures copies { (w : Session) → Shows self.old w → OnErr result (IsTrue (is_copy (said_by_lane (w.lanes lane) verb.now).1)) }
     {
         let (place, said) = self.lanes[lane as usize].tell(self.alloc, verb)?;
         Ok(Told { lane, place, said })

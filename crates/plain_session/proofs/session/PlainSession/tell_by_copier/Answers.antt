@@ -1,5 +1,5 @@
 use Rattle.std.proofs.Common.{refl}
-use Rattle.plain_session.proofs.Telling.{by_copier}
+use Rattle.plain_session.proofs.Turns.{by_copier}
 use Rattle.plain_session.proofs.session.PlainSession.tell_by_copier.Goals as goal
 
 pub returns : goal.returns
