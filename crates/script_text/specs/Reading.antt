@@ -1,5 +1,6 @@
 -- What the reader of a line makes of its words: a value and the words that are left, or nothing.
-use Rattle.std.specs.Prelude.{◌≡◌, ◌==◌, ℕ, zero, suc, ◌+◌, ◌-◌, ◌*◌, ◌^◌, Bool, true, false, ◌&&◌, ◌||◌, nat_le, nat_lt, nat_eq, List, [], ◌∷◌, length, find, Option, Some, None, Result, Ok, Err, if◌then◌else◌, codes}
+use Rattle.std.specs.Prelude.{◌≡◌, ◌==◌, ℕ, zero, suc, ◌+◌, ◌-◌, ◌*◌, ◌^◌, Bool, true, false, ◌&&◌, ◌||◌, nat_le, nat_lt, nat_eq, List, [], ◌∷◌, length, find, Option, Some, None, is_some, Result, Ok, Err, if◌then◌else◌, codes}
+use Rattle.std.specs.Option.{option_map_or}
 use Rattle.std.specs.List.{slice_split}
 use Rattle.std.specs.Fmt.{decimal}
 use Rattle.std.specs.Str.Parse.{digits_value}
@@ -337,3 +338,28 @@ line_at server ws = do
   asked ← verb_at server lane.1
   ended ← end_at asked.1
   Some (record { lane = lane.0; verb = asked.0 }, ended.1)
+
+-- ---- memory
+
+abbrev pub is_get : Keyword → Bool
+is_get keyword.Get = true
+is_get _ = false
+
+-- Memory is taken for text words and for the items of a batch. Behind a keyword, in words that are left, they stand at once, but for two verbs.
+unfoldable pub takes_memory_behind : Keyword → List (List ℕ) → Bool
+takes_memory_behind keyword.Use ws = true
+takes_memory_behind keyword.Remove ws = true
+takes_memory_behind keyword.Set ws = true
+takes_memory_behind keyword.Del ws = true
+takes_memory_behind keyword.Batch ws = true
+takes_memory_behind keyword.Get ws = true
+takes_memory_behind keyword.Snap ws = option_map_or (λ k. is_get k.0) (keyword_at ws) false
+takes_memory_behind keyword.Scan ws = is_some (direction_at ws)
+takes_memory_behind _ ws = false
+
+unfoldable pub verb_takes_memory : List (List ℕ) → Bool
+verb_takes_memory ws = option_map_or (λ k. takes_memory_behind k.0 k.1) (keyword_at ws) false
+
+-- a text begins with a lane and with a verb that takes memory
+unfoldable pub takes_memory : List (List ℕ) → Bool
+takes_memory ws = option_map_or (λ lane. verb_takes_memory lane.1) (lane_at ws) false

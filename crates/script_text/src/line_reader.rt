@@ -1,5 +1,5 @@
-ghost use Rattle.std.specs.Prelude.{◌≡◌};
-ghost use Rattle.script_text.specs.Reading.{Gives, batch_at, compact_at, compact_of, copy_at, del_at, direction_at, direction_of, item_at, item_of, items_at, lane_at, line_at, meta_at, put_at, read_only_at, read_only_of, scan_at, seqs_at, set_at, snap_at, snap_of, use_at, verb_at, verb_of};
+ghost use Rattle.std.specs.Prelude.{◌≡◌, IsTrue, OnErr};
+ghost use Rattle.script_text.specs.Reading.{Gives, batch_at, compact_at, compact_of, copy_at, del_at, direction_at, direction_of, item_at, item_of, items_at, lane_at, line_at, meta_at, put_at, read_only_at, read_only_of, scan_at, seqs_at, set_at, snap_at, snap_of, takes_memory, takes_memory_behind, use_at, verb_at, verb_of, verb_takes_memory};
 
 use crate::keyword::Keyword;
 use crate::reader::Reader;
@@ -18,9 +18,10 @@ const MOST_COPIED: u64 = 1_000_000;
 
 impl<'a> Reader<'a> {
     /// The line that these words are, in a script for the server or for play.
-    #[tactic(auto, unfolding(crate::specs::Reading::line_at))]
+    #[tactic(auto, unfolding(crate::specs::Reading::line_at, crate::specs::Reading::takes_memory))]
     pub(crate) fn line(&mut self, alloc: Global, server: bool) -> Result<Line, Unread>
-        ensures { Gives result self.new (line_at server self.old) }
+        ensures gives { Gives result self.new (line_at server self.old) }
+        ensures memory { result ≡ Err Unread.NoMemory → IsTrue (takes_memory self.old) }
     {
         let lane = self.lane()?;
         let verb = self.verb(alloc, server)?;
@@ -30,7 +31,8 @@ impl<'a> Reader<'a> {
 
     #[tactic(auto, unfolding(crate::specs::Reading::lane_at))]
     fn lane(&mut self) -> Result<u8, Unread>
-        ensures { Gives result self.new (lane_at self.old) }
+        ensures gives { Gives result self.new (lane_at self.old) }
+        ensures never_memory { OnErr result (result ≡ Err Unread.NotALine) }
     {
         let lane = self.number()?;
         if lane <= LAST_LANE {
@@ -39,9 +41,10 @@ impl<'a> Reader<'a> {
         Err(Unread::NotALine)
     }
 
-    #[tactic(auto, unfolding(crate::specs::Reading::verb_at, crate::specs::Reading::verb_of))]
+    #[tactic(auto, unfolding(crate::specs::Reading::verb_at, crate::specs::Reading::verb_of, crate::specs::Reading::verb_takes_memory, crate::specs::Reading::takes_memory_behind))]
     fn verb(&mut self, alloc: Global, server: bool) -> Result<Verb, Unread>
-        ensures { Gives result self.new (verb_at server self.old) }
+        ensures gives { Gives result self.new (verb_at server self.old) }
+        ensures memory { result ≡ Err Unread.NoMemory → IsTrue (verb_takes_memory self.old) }
     {
         match self.keyword()? {
             Keyword::Use => self.use_store(alloc),
@@ -84,7 +87,8 @@ impl<'a> Reader<'a> {
 
     #[tactic(auto, unfolding(crate::specs::Reading::read_only_at, crate::specs::Reading::read_only_of))]
     fn read_only(&mut self) -> Result<bool, Unread>
-        ensures { Gives result self.new (read_only_at self.old) }
+        ensures gives { Gives result self.new (read_only_at self.old) }
+        ensures never_memory { OnErr result (result ≡ Err Unread.NotALine) }
     {
         if self.is_done() {
             return Ok(false);
@@ -169,9 +173,10 @@ impl<'a> Reader<'a> {
         Ok(Item::Put { key, meta, body })
     }
 
-    #[tactic(auto, unfolding(crate::specs::Reading::snap_at, crate::specs::Reading::snap_of))]
+    #[tactic(auto, unfolding(crate::specs::Reading::snap_at, crate::specs::Reading::snap_of, crate::specs::Reading::takes_memory_behind))]
     fn snap(&mut self, alloc: Global) -> Result<Verb, Unread>
-        ensures { Gives result self.new (snap_at self.old) }
+        ensures gives { Gives result self.new (snap_at self.old) }
+        ensures memory { result ≡ Err Unread.NoMemory → IsTrue (takes_memory_behind Keyword.Snap self.old) }
     {
         match self.keyword()? {
             Keyword::Latest => Ok(Verb::SnapLatest),
@@ -192,7 +197,8 @@ impl<'a> Reader<'a> {
     /// Whether a list goes up.
     #[tactic(auto, unfolding(crate::specs::Reading::direction_at, crate::specs::Reading::direction_of))]
     fn direction(&mut self) -> Result<bool, Unread>
-        ensures { Gives result self.new (direction_at self.old) }
+        ensures gives { Gives result self.new (direction_at self.old) }
+        ensures never_memory { OnErr result (result ≡ Err Unread.NotALine) }
     {
         match self.keyword()? {
             Keyword::Up => Ok(true),
@@ -201,9 +207,10 @@ impl<'a> Reader<'a> {
         }
     }
 
-    #[tactic(auto, unfolding(crate::specs::Reading::scan_at))]
+    #[tactic(auto, unfolding(crate::specs::Reading::scan_at, crate::specs::Reading::takes_memory_behind))]
     fn scan(&mut self, alloc: Global) -> Result<Verb, Unread>
-        ensures { Gives result self.new (scan_at self.old) }
+        ensures gives { Gives result self.new (scan_at self.old) }
+        ensures memory { result ≡ Err Unread.NoMemory → IsTrue (takes_memory_behind Keyword.Scan self.old) }
     {
         let up = self.direction()?;
         let from = self.text(alloc)?;
@@ -213,7 +220,8 @@ impl<'a> Reader<'a> {
 
     #[tactic(auto, unfolding(crate::specs::Reading::seqs_at))]
     fn seqs(&mut self) -> Result<Verb, Unread>
-        ensures { Gives result self.new (seqs_at self.old) }
+        ensures gives { Gives result self.new (seqs_at self.old) }
+        ensures never_memory { OnErr result (result ≡ Err Unread.NotALine) }
     {
         let up = self.direction()?;
         let from = self.number()?;
@@ -224,7 +232,8 @@ impl<'a> Reader<'a> {
     /// The server's one line, or one of the five of play.
     #[tactic(auto, unfolding(crate::specs::Reading::compact_at, crate::specs::Reading::compact_of, crate::specs::Reading::copy_at))]
     fn compact(&mut self, server: bool) -> Result<Verb, Unread>
-        ensures { Gives result self.new (compact_at server self.old) }
+        ensures gives { Gives result self.new (compact_at server self.old) }
+        ensures never_memory { OnErr result (result ≡ Err Unread.NotALine) }
     {
         if server {
             return Ok(Verb::Compact);

@@ -1,4 +1,4 @@
-ghost use Rattle.std.specs.Prelude.{◌≡◌, ◌∷◌, []};
+ghost use Rattle.std.specs.Prelude.{◌≡◌, ◌∷◌, [], OnErr};
 ghost use Rattle.std.specs.Option.{option_map_or};
 ghost use Rattle.script_text.specs.Reading.{Gives, GivesBy, count_at, end_at, keyword_at, none_left, number_at, text_at, word_at, words_in};
 
@@ -56,7 +56,8 @@ impl<'a> Reader<'a> {
     /// The end.
     #[tactic(auto, unfolding(crate::specs::Reading::end_at))]
     pub(crate) fn end(&mut self) -> Result<(), Unread>
-        ensures { Gives result self.new (end_at self.old) }
+        ensures gives { Gives result self.new (end_at self.old) }
+        ensures never_memory { OnErr result (result ≡ Err Unread.NotALine) }
     {
         if !self.is_done() {
             return Err(Unread::NotALine);
@@ -66,7 +67,8 @@ impl<'a> Reader<'a> {
 
     #[tactic(auto, unfolding(crate::specs::Reading::word_at))]
     fn word(&mut self) -> Result<&'a [u8], Unread>
-        ensures { GivesBy (λ w. w.now) result self.new (word_at self.old) }
+        ensures gives { GivesBy (λ w. w.now) result self.new (word_at self.old) }
+        ensures never_memory { OnErr result (result ≡ Err Unread.NotALine) }
     {
         let text = self.left.ok_or(Unread::NotALine)?;
         let (word, rest) = first_word(text);
@@ -77,7 +79,8 @@ impl<'a> Reader<'a> {
     /// A word of the language.
     #[tactic(auto, unfolding(crate::specs::Reading::keyword_at))]
     pub(crate) fn keyword(&mut self) -> Result<Keyword, Unread>
-        ensures { Gives result self.new (keyword_at self.old) }
+        ensures gives { Gives result self.new (keyword_at self.old) }
+        ensures never_memory { OnErr result (result ≡ Err Unread.NotALine) }
     {
         Keyword::of(self.word()?).ok_or(Unread::NotALine)
     }
@@ -93,7 +96,8 @@ impl<'a> Reader<'a> {
     /// A number below 2^64.
     #[tactic(auto, unfolding(crate::specs::Reading::number_at))]
     pub(crate) fn number(&mut self) -> Result<u64, Unread>
-        ensures { Gives result self.new (number_at self.old) }
+        ensures gives { Gives result self.new (number_at self.old) }
+        ensures never_memory { OnErr result (result ≡ Err Unread.NotALine) }
     {
         number_of(self.word()?).ok_or(Unread::NotALine)
     }
@@ -101,7 +105,8 @@ impl<'a> Reader<'a> {
     /// A number of things, at least one and at most so many.
     #[tactic(auto, unfolding(crate::specs::Reading::count_at))]
     pub(crate) fn count(&mut self, most: u64) -> Result<u64, Unread>
-        ensures { Gives result self.new (count_at most self.old) }
+        ensures gives { Gives result self.new (count_at most self.old) }
+        ensures never_memory { OnErr result (result ≡ Err Unread.NotALine) }
     {
         let count = self.number()?;
         if 1 <= count && count <= most {
