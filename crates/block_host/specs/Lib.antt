@@ -1,5 +1,6 @@
 pub mod Calls
 pub mod Disk
+pub mod Found
 pub mod Moments
 pub mod Order
 pub mod Reader

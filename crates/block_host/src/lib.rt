@@ -5,6 +5,7 @@
 
 mod block;
 mod failed;
+mod found;
 mod fresh;
 mod gate;
 mod host;
@@ -16,6 +17,7 @@ mod view;
 
 pub use block::Block;
 pub use failed::Failed;
+pub use found::found_where_sealed;
 pub use fresh::Fresh;
 pub use gate::Gate;
 pub use host::Host;

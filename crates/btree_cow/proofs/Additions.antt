@@ -17,11 +17,16 @@ use Rattle.btree_cow.proofs.ChildPlaces.{child_long, inner_holds}
 -- ---- one addition after another
 
 limits_on : (a b c : Shelf) → SameLimits a b → SameLimits b c → SameLimits a c
-limits_on a b c l m = record { file = m.file ∙ l.file; used = omega (arith, l.used, m.used); most = m.most ∙ l.most; max = m.max ∙ l.max }
+limits_on a b c l m = record { lender = m.lender ∙ l.lender; file = m.file ∙ l.file; used = omega (arith, l.used, m.used); most = m.most ∙ l.most; max = m.max ∙ l.max }
 
 pub appends_on : (tells : Bool) (a b c : Shelf) (x y z : ℕ) → Appends tells a b x y → Appends tells b c y z → Appends tells a c x z
 appends_on tells a b c x y z p q =
     record { later = λ told. later_on a b c (p.later told) (q.later told); limits = limits_on a b c p.limits q.limits; counts = omega (arith, p.counts, q.counts) }
+
+-- additions behind a node that was read
+pub appends_after : (tells : Bool) (a b c d : Shelf) (x y z w : ℕ) → b ≡ a → y ≡ x → Appends tells b c y z → Appends tells c d z w → Appends tells a d x w
+appends_after tells a b c d x y z w same quiet p q =
+    subst (λ (s : Shelf). Appends tells s d x w) same (subst (λ (n : ℕ). Appends tells b d n w) quiet (appends_on tells b c d y z w p q))
 
 -- ---- a node that is stored
 

@@ -30,7 +30,7 @@ pub applies_next : (tells : Bool) (old mid new : Shelf) (x y z : ℕ) (root at a
     → (IsTrue tells → (ok : ℕ → ℕ → Bool) (entries : List Entry) → StaysWell ok → IsTrue (is_well ok mid.used c) → Tree ok mid at entries → Tree ok new at' (after_change entries c)) → Applies tells old new x z root at' changes rest
 applies_next tells old mid new x y z root at at' changes rest c a later limits same stands = record {
   later = λ told. later_on old mid new (a.later told) (later told);
-  limits = record { file = limits.file ∙ a.limits.file; used = omega (arith, a.limits.used, limits.used); most = limits.most ∙ a.limits.most; max = limits.max ∙ a.limits.max };
+  limits = record { lender = limits.lender ∙ a.limits.lender; file = limits.file ∙ a.limits.file; used = omega (arith, a.limits.used, limits.used); most = limits.most ∙ a.limits.most; max = limits.max ∙ a.limits.max };
   same = same ∙ a.same;
   stands = λ told ok entries well puts tree.
       let so = a.stands told ok entries well puts tree in

@@ -1,10 +1,12 @@
 -- Trees in a file to which nodes are added.
-use Rattle.std.proofs.Common.{◌≡◌, ℕ, zero, suc, ◌<◌, ◌≤◌, Bool, true, false, List, [], ◌∷◌, ◌++◌, length, refl, sym, ◌∙◌, subst, arith}
+use Rattle.std.proofs.Common.{◌≡◌, ℕ, zero, suc, ◌<◌, ◌≤◌, Bool, true, false, List, [], ◌∷◌, ◌++◌, length, refl, sym, ap, ◌∙◌, ◌+◌, subst, arith, length-append, append_assoc}
 use Rattle.std.specs.Prelude.{Option, Some, IsTrue}
 use Rattle.std.specs.List.{list_all}
 use Rattle.std.proofs.lemmas.Bool.{and_parts, and_from, ltb-true}
+use Rattle.std.proofs.lemmas.List.{append-nil}
+use Rattle.block_host.specs.declared.block.Block.{Block}
 use Rattle.node_page.specs.Nodes.{Entry, rises}
-use Rattle.btree_cow.specs.Shelf.{Shelf, Later, LieBelow}
+use Rattle.btree_cow.specs.Shelf.{Shelf, AreNodes, Grows, Later, LieBelow}
 use Rattle.btree_cow.specs.Trees.{lies_in, border, Fan, NodeAt, TreeAt}
 use Rattle.btree_cow.specs.Changes.{StaysWell}
 use Rattle.btree_cow.specs.Growing.{Holds, Stores, AddsNode, first_chunk}
@@ -17,12 +19,42 @@ use Rattle.btree_cow.proofs.WithEntries.{is_over, is_under}
 
 -- ---- later
 
+-- nodes behind nodes
+nodes_on : (file at : ℕ) (first second : List Block) → AreNodes file at first → AreNodes file (at + length first) second → AreNodes file at (first ++ second)
+nodes_on file at [] second one two = subst (λ (n : ℕ). AreNodes file n second) (omega arith) two
+nodes_on file at (b ∷ first) second one two =
+    (one.0, one.1, one.2, one.3, nodes_on file (at + 1) first second one.4 (subst (λ (n : ℕ). AreNodes file n second) (omega arith) two))
+
+pub grows_same : (s : Shelf) → Grows s s
+grows_same s = record { more = []; behind = sym (append-nil s.content); nodes = tt }
+
+grows_on : (a b c : Shelf) → b.file ≡ a.file → Grows a b → Grows b c → Grows a c
+grows_on a b c same g h =
+    let long : length b.content ≡ length a.content + length g.more = ap (λ (l : List Block). length l) g.behind ∙ length-append a.content g.more in
+    let nodes : AreNodes a.file (length a.content + length g.more) h.more =
+    subst (λ (f : ℕ). AreNodes f (length a.content + length g.more) h.more) same (subst (λ (n : ℕ). AreNodes b.file n h.more) long h.nodes) in
+    record {
+      more = g.more ++ h.more;
+      behind = h.behind ∙ ap (λ (l : List Block). l ++ h.more) g.behind ∙ append_assoc a.content g.more h.more;
+      nodes = nodes_on a.file (length a.content) g.more h.more g.nodes nodes;
+    }
+
 pub later_same : (s : Shelf) → Later s s
-later_same s = record { file = refl; blocks = λ at stored h. h; records = refl; used = omega arith; most = refl; max = refl }
+later_same s = record { lender = refl; file = refl; content = grows_same s; blocks = λ at stored h. h; seen = refl; tail = refl; used = omega arith; most = refl; max = refl }
 
 pub later_on : (a b c : Shelf) → Later a b → Later b c → Later a c
 later_on a b c l m =
-    record { file = m.file ∙ l.file; blocks = λ at stored h. m.blocks at stored (l.blocks at stored h); records = m.records ∙ l.records; used = omega (arith, l.used, m.used); most = m.most ∙ l.most; max = m.max ∙ l.max }
+    record {
+      lender = m.lender ∙ l.lender;
+      file = m.file ∙ l.file;
+      content = grows_on a b c l.file l.content m.content;
+      blocks = λ at stored h. m.blocks at stored (l.blocks at stored h);
+      seen = m.seen ∙ l.seen;
+      tail = m.tail ∙ l.tail;
+      used = omega (arith, l.used, m.used);
+      most = m.most ∙ l.most;
+      max = m.max ∙ l.max;
+    }
 
 pub node_later : (old new : Shelf) (at : ℕ) (leaf : Bool) (es : List Entry) → Later old new → NodeAt old at leaf es → NodeAt new at leaf es
 node_later old new at leaf es later node = (node.0, later.blocks at (record { kind = 2; page = node.0 }) node.1, node.2)

@@ -1,5 +1,5 @@
 -- The steps of an insert, as the code has them.
-use Rattle.std.proofs.Common.{◌≡◌, ◌⊎◌, inl, inr, ℕ, suc, ◌<◌, ◌≤◌, ◌-◌, Bool, true, false, List, [], ◌∷◌, refl, sym, ap, ◌∙◌, subst, arith, append-nil}
+use Rattle.std.proofs.Common.{◌≡◌, ◌⊎◌, inl, inr, ℕ, suc, ◌<◌, ◌≤◌, ◌-◌, Bool, true, false, List, [], ◌∷◌, length, refl, sym, ap, ◌∙◌, subst, arith, append-nil}
 use Rattle.std.specs.Prelude.{Option, Some, None, IsTrue, Result, Ok, Err, IfOk}
 use Rattle.std.specs.List.{list_all}
 use Rattle.std.proofs.lemmas.Bool.{and_from}
@@ -16,7 +16,7 @@ use Rattle.btree_cow.proofs.Borders.{lies}
 use Rattle.btree_cow.proofs.Breaks.{never_breaks}
 use Rattle.btree_cow.proofs.WithEntries.{with_rises}
 use Rattle.btree_cow.proofs.Growth.{added_tree, tree_below}
-use Rattle.btree_cow.proofs.ChildPlaces.{child_rises}
+use Rattle.btree_cow.proofs.ChildPlaces.{child_long, child_rises}
 use Rattle.btree_cow.proofs.Additions.{puts_leaf, puts_inner, none_fails, child_fails}
 
 on_ok : {A E : Type 0} (r : Result A E) (P Q : A → Type 0) → ((a : A) → P a → Q a) → IfOk r P → IfOk r Q
@@ -42,6 +42,11 @@ leaf_put tells old mid new r at chunk value leaf content items slice told lie ke
     stores
 
 -- ---- at an inner node
+
+pub inner_some : (slice items content : List Entry) (chunk place : ℕ) (grown : Grown) → slice ≡ items → items ≡ with_child content place chunk grown → 1 ≤ length content → 1 ≤ length slice
+inner_some slice items content chunk place grown is made some =
+    let long = child_long content place chunk grown in
+    subst (λ (l : List Entry). 1 ≤ length l) (sym (is ∙ made)) (omega (arith, long.0, some))
 
 pub inner_rises : (slice items content children : List Entry) (chunk place child : ℕ) (grown : Grown) → slice ≡ items → items ≡ with_child content place chunk grown → children ≡ content → IsChild children chunk place child → rises content ≡ true → rises slice ≡ true
 inner_rises slice items content children chunk place child grown is put same c rise =

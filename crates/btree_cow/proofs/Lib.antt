@@ -23,3 +23,6 @@ mod Pairs
 mod Gaps
 mod Removals
 mod Applications
+mod TreeEntries
+mod Standing
+mod Stored

@@ -1,10 +1,10 @@
 -- Why a walk down a tree ends without an answer.
-use Rattle.std.specs.Prelude.{◌≡◌, ◌⊎◌, ℕ, zero, suc, ◌≤◌, Bool, false, List, slice_get, Option, Some, None, IsTrue}
+use Rattle.std.specs.Prelude.{◌≡◌, ◌⊎◌, ℕ, zero, suc, ◌/◌, ◌≤◌, Bool, false, List, slice_get, Option, Some, IsTrue}
 use Rattle.block_host.specs.Disk.{risen}
 use Rattle.forest_model.specs.declared.refusal.Refusal.{Refusal}
 use Rattle.node_page.specs.Nodes.{Entry}
 use Rattle.node_page.specs.declared.page.Page.{Page}
-use Rattle.btree_cow.specs.Shelf.{Shelf, Later, is_stored}
+use Rattle.btree_cow.specs.Shelf.{Shelf, Later, BreaksAt, is_stored}
 use Rattle.btree_cow.specs.Trees.{NodeAt}
 
 -- one of the entries
@@ -53,14 +53,22 @@ BreaksFrom s root block = (at : ℕ) × (root ≡ Some at) × BreaksTree s at bl
 abbrev pub is_full : Shelf → Refusal
 is_full s = Refusal.FileFull s.used 1 s.max
 
--- the reasons not to append: no room, with all as it was, or a count of faults that rose
+-- the reasons not to give a page: a count of faults that rose, or the block asked for, which is no page of the kind
+abbrev pub PageFails : Bool → Shelf → ℕ → ℕ → ℕ → ℕ → Refusal → Type 0
+PageFails tells s kind at before after why =
+    ((why ≡ Refusal.DiskFault) × (risen before ≤ after))
+    ⊎ ((why ≡ Refusal.Damaged s.file at) × (IsTrue tells → IsNoPage s kind at))
+
+-- The reasons not to append: no room, with all as it was; or a count of faults that rose, with all blocks and records of
+-- before as they were.
 abbrev pub AddFails : Shelf → Shelf → ℕ → ℕ → Refusal → Type 0
 AddFails old new before after why =
     ((why ≡ is_full old) × (old.most ≤ old.used) × (new ≡ old))
     ⊎ ((why ≡ Refusal.DiskFault) × (risen before ≤ after) × Later old new)
 
--- the reasons not to give a record: no memory, a count of faults that rose, or no record at the address
+-- The reasons not to give a record: no memory, a count of faults that rose, or a block, at or behind the address, by which
+-- there is no record there.
 abbrev pub DocumentFails : Bool → Shelf → ℕ → ℕ → ℕ → Refusal → Type 0
 DocumentFails tells s address before after why =
     (why ≡ Refusal.NoMemory) ⊎ ((why ≡ Refusal.DiskFault) × (risen before ≤ after))
-    ⊎ ((block : ℕ) × (why ≡ Refusal.Damaged s.file block) × (IsTrue tells → (s.records address ≡ None)))
+    ⊎ ((block : ℕ) × (why ≡ Refusal.Damaged s.file block) × (address / 4096 ≤ block) × (IsTrue tells → BreaksAt s address block))

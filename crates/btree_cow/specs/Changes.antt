@@ -37,6 +37,7 @@ StaysWell ok = (at later value : ℕ) → at ≤ later → IsTrue (ok at value) 
 
 -- the numbers of a file to which blocks were added at most
 pub record SameLimits (old new : Shelf) : Type 0 where
+  pub lender : new.lender ≡ old.lender
   pub file : new.file ≡ old.file
   pub used : old.used ≤ new.used
   pub most : new.most ≡ old.most

@@ -1,4 +1,5 @@
 pub mod Shelf
+pub mod Meanings
 pub mod Trees
 pub mod Causes
 pub mod Changes

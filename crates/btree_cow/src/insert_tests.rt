@@ -1,5 +1,6 @@
-ghost use Rattle.std.specs.Prelude.{◌≡◌, ◌<◌, ◌≤◌, ◌^◌, false, None, length};
+ghost use Rattle.std.specs.Prelude.{◌≡◌, ◌<◌, ◌≤◌, ◌^◌, false, length};
 ghost use Rattle.block_host.specs.Disk.{not_told};
+ghost use Rattle.btree_cow.specs.Shelf.{untold_shelf};
 
 use super::*;
 use forest_model::{Rec, Refusal};
@@ -31,7 +32,7 @@ impl Growing {
 impl Pages for Growing {
     ghost tells = { false };
 
-    ghost shelf = { λ f. record { file = 3; blocks = λ _. None; records = λ _. None; used = length f.pages.items; most = f.most; max = f.most } };
+    ghost shelf = { λ f. untold_shelf 3 (length f.pages.items) f.most f.most };
 
     ghost faults = { λ f. f.faults };
 
@@ -50,6 +51,8 @@ impl Pages for Growing {
     }
 
     ghost lie_below = { λ told _. not_told told };
+
+    ghost by_content = { λ told _. not_told told };
 }
 
 impl Docs for Growing {

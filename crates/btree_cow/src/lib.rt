@@ -12,6 +12,7 @@ mod applying;
 mod grown;
 mod inserting;
 mod joined;
+mod laws;
 mod look_up;
 mod node_search;
 mod overfull;
@@ -23,6 +24,10 @@ mod walk;
 
 pub use applying::apply;
 pub use inserting::insert;
+pub use laws::{
+    blocks_mean_what_is_sealed, changed_entries_rise, entries_rise, later_composes, meanings_stay,
+    root_lies_below, tests_may_ask_less, tree_stays, trees_go_by_blocks, values_are_well,
+};
 pub use look_up::{find, next};
 pub use pages::{Appender, Docs, Pages};
 pub use removing::remove;

@@ -1,5 +1,6 @@
-ghost use Rattle.std.specs.Prelude.{false, None};
+ghost use Rattle.std.specs.Prelude.{false};
 ghost use Rattle.block_host.specs.Disk.{not_told};
+ghost use Rattle.btree_cow.specs.Shelf.{untold_shelf};
 
 use super::*;
 use forest_model::Refusal;
@@ -45,7 +46,7 @@ fn page_or_chain(at: u64) -> Option<Page> {
 impl Pages for Blocks {
     ghost tells = { false };
 
-    ghost shelf = { λ _. record { file = 7; blocks = λ _. None; records = λ _. None; used = 0; most = 0; max = 0 } };
+    ghost shelf = { λ _. untold_shelf 7 0 0 0 };
 
     ghost faults = { λ b. b.faults };
 
@@ -68,6 +69,8 @@ impl Pages for Blocks {
     }
 
     ghost lie_below = { λ told _. not_told told };
+
+    ghost by_content = { λ told _. not_told told };
 }
 
 fn found(root: u64, chunk: u64) -> Result<Option<u64>, Refusal> {

@@ -5,3 +5,4 @@ mod Written
 mod NodeParts
 mod StemParts
 mod RowOfEntries
+mod OnePage

@@ -1,5 +1,6 @@
-ghost use Rattle.std.specs.Prelude.{false, None, length};
+ghost use Rattle.std.specs.Prelude.{false, length};
 ghost use Rattle.block_host.specs.Disk.{not_told};
+ghost use Rattle.btree_cow.specs.Shelf.{untold_shelf};
 
 use btree_cow::{Appender, Docs, Pages};
 use forest_model::{Rec, Refusal};
@@ -37,7 +38,7 @@ impl Blocks {
 impl Pages for Blocks {
     ghost tells = { false };
 
-    ghost shelf = { λ f. record { file = 3; blocks = λ _. None; records = λ _. None; used = length f.stored.items; most = 100000; max = 100000 } };
+    ghost shelf = { λ f. untold_shelf 3 (length f.stored.items) 100000 100000 };
 
     ghost faults = { λ f. f.faults };
 
@@ -60,6 +61,8 @@ impl Pages for Blocks {
     }
 
     ghost lie_below = { λ told _. not_told told };
+
+    ghost by_content = { λ told _. not_told told };
 }
 
 impl Docs for Blocks {

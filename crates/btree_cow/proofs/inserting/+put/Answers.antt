@@ -1,7 +1,7 @@
 use Rattle.std.proofs.Common.{refl}
 use Rattle.std.proofs.lemmas.Result.{err_from_is_err_and}
-use Rattle.btree_cow.proofs.Additions.{read_fails}
-use Rattle.btree_cow.proofs.Insertions.{leaf_rises, leaf_put, inner_rises, inner_put, nowhere_fails, below_fails}
+use Rattle.btree_cow.proofs.Additions.{appends_after, read_fails}
+use Rattle.btree_cow.proofs.Insertions.{leaf_rises, leaf_put, inner_rises, inner_some, inner_put, nowhere_fails, below_fails}
 use Rattle.btree_cow.proofs.inserting.+put.Goals as goal
 
 pub returns-in_err-node-clause-reason : goal.returns-in_err-node-clause-reason
@@ -41,3 +41,12 @@ returns-clause-puts g t c = λ told.
     c.in_ok-node.node.leaf c.in_ok-node.node.entries.items c.as_slice-2.result.now c.replace_child.new.children.items c.as_slice-3.result.now c.in_ok-grown.grown told (g.met.P.Pages.lie_below told c.args.pages.now) (g.met.P.Pages.lie_below told c.put.new.pages)
     c.in_ok-node.ensures.kept c.if-node.false c.in_ok-node.ensures.node c.as_slice-2.ensures.value c.in-Some.ensures.found (c.in_ok-grown.ensures.appends.later told) (c.in_ok-grown.ensures.puts told)
     c.as_slice-3.ensures.value c.replace_child.ensures (c.store-2.ensures.stores told)
+
+pub store-requires-2-clause-some : goal.store-requires-2-clause-some
+store-requires-2-clause-some g t c =
+    inner_some c.as_slice-3.result.now c.replace_child.new.children.items c.in_ok-node.node.entries.items c.args.chunk c.in-Some.place c.in_ok-grown.grown c.as_slice-3.ensures.value c.replace_child.ensures c.in_ok-node.ensures.node.some
+
+pub returns-clause-appends : goal.returns-clause-appends
+returns-clause-appends g t c =
+    appends_after g.P.Pages.tells (g.P.Pages.shelf c.args.pages.now) (g.P.Pages.shelf c.read_node.new.pages) (g.P.Pages.shelf c.put.new.pages) (g.P.Pages.shelf c.store-2.new.pages) _ _ _ _
+    c.in_ok-node.ensures.kept c.in_ok-node.ensures.untroubled c.in_ok-grown.ensures.appends c.store-2.ensures.appends

@@ -1,4 +1,5 @@
 use Rattle.std.proofs.lemmas.Result.{err_from_is_err_and}
+use Rattle.btree_cow.proofs.Growth.{later_on}
 use Rattle.btree_cow.proofs.Insertions.{root_fails, root_stands, root_grows}
 use Rattle.btree_cow.proofs.inserting.insert.Goals as goal
 
@@ -18,3 +19,6 @@ pub returns-in-Two-clause-inserted : goal.returns-in-Two-clause-inserted
 returns-in-Two-clause-inserted g c = λ told ok entries well okay tree.
     root_grows g.P.Pages.tells (g.P.Pages.shelf c.args.pages.now) (g.P.Pages.shelf c.put.new.pages) (g.P.Pages.shelf c.add_node-in-Two.new.pages) c.add_node-in-Two.result c.args.root c.in-Some.at c.args.chunk c.args.value c.in-Two.left c.in-Two.right c.in_ok-block.field-0
     told (g.met.P.Pages.lie_below told c.put.new.pages) c.in-Some.is c.in-Two.is c.in_ok-block.ensures.apart (c.in_ok-block.ensures.puts told) (c.add_node-in-Two.ensures.added told) ok entries well okay tree
+
+pub returns-in-Two-clause-later : goal.returns-in-Two-clause-later
+returns-in-Two-clause-later g c = λ told. later_on _ _ _ (c.in_ok-block.ensures.appends.later told) (c.add_node-in-Two.ensures.appends.later told)

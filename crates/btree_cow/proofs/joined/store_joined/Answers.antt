@@ -19,3 +19,6 @@ pub returns-clause-stores : goal.returns-clause-stores
 returns-clause-stores g c = λ told.
     stores_halves c.args.leaf c.args.entries.now c.split_at.result.0.now c.split_at.result.1.now _ _ _ _ _ _ _ c.split_at.ensures.by_index.0 (omega (arith, c.split_at.ensures.front_len)) (omega (arith, c.split_at.ensures.back_len)) c.requires.rise
     (c.in_ok-left.ensures.added told) (c.in_ok-right.ensures.added told) c.least_chunk.ensures c.least_chunk-2.ensures
+
+pub returns-clause-appends : goal.returns-clause-appends
+returns-clause-appends g c = appends_on _ _ _ _ _ _ _ c.in_ok-left.ensures.appends c.in_ok-right.ensures.appends

@@ -1,6 +1,6 @@
 use Rattle.std.proofs.Common.{refl}
 use Rattle.std.proofs.lemmas.Result.{err_from_is_err_and}
-use Rattle.btree_cow.proofs.Additions.{read_fails}
+use Rattle.btree_cow.proofs.Additions.{appends_after, read_fails}
 use Rattle.btree_cow.proofs.Insertions.{nowhere_fails, below_fails}
 use Rattle.btree_cow.proofs.Removals.{inner_removed, refill_failed}
 use Rattle.btree_cow.proofs.removing.+remove_from.Goals as goal
@@ -34,3 +34,8 @@ returns-clause-reason g t c =
     refill_failed g.P.Pages.tells c.args.left c.args.at (g.P.Pages.shelf c.args.pages.now) (g.P.Pages.shelf c.read_node.new.pages) (g.P.Pages.shelf c.remove_from.new.pages) (g.P.Pages.shelf c.pass_up.new.pages) _ _ _ _ c.pass_up.result
     c.in_ok-node.node.leaf c.in_ok-node.node.entries.items c.in-Some.ensures.lower.0 c.in_ok-node.ensures.kept c.in_ok-node.ensures.untroubled c.in_ok-shrunk.ensures.untroubled c.if-node.false c.in_ok-node.ensures.node
     c.in_ok-shrunk.ensures.appends c.pass_up.ensures.reason
+
+pub returns-clause-appends : goal.returns-clause-appends
+returns-clause-appends g t c =
+    appends_after g.P.Pages.tells (g.P.Pages.shelf c.args.pages.now) (g.P.Pages.shelf c.read_node.new.pages) (g.P.Pages.shelf c.remove_from.new.pages) (g.P.Pages.shelf c.pass_up.new.pages) _ _ _ _
+    c.in_ok-node.ensures.kept c.in_ok-node.ensures.untroubled c.in_ok-shrunk.ensures.appends c.pass_up.ensures.appends

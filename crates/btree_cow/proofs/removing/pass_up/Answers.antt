@@ -1,5 +1,6 @@
 use Rattle.std.proofs.Common.{ap, ◌∙◌}
 use Rattle.node_page.specs.Nodes.{rises}
+use Rattle.btree_cow.proofs.Additions.{appends_on}
 use Rattle.btree_cow.proofs.Pairs.{led_rises}
 use Rattle.btree_cow.proofs.Removals.{absent_passed, stored_passed, short_passed}
 use Rattle.btree_cow.proofs.removing.pass_up.Goals as goal
@@ -19,3 +20,6 @@ pub returns-in_ok-refill-in-Short-clause-passes : goal.returns-in_ok-refill-in-S
 returns-in_ok-refill-in-Short-clause-passes g c = λ told is.
     short_passed (g.P.Pages.shelf c.args.pages.now) (g.P.Pages.shelf c.refill.new.pages) (g.P.Pages.shelf c.settle-in-Short.new.pages) c.settle-in-Short.result c.args.node.leaf c.args.node.entries.items c.refill.new.children.items c.args.place
     c.args.shrunk c.in-Short.short is c.in-Short.is (c.in_ok-refill-in-Short.ensures.refills told) (c.settle-in-Short.ensures.settles told)
+
+pub returns-in_ok-refill-in-Short-clause-appends : goal.returns-in_ok-refill-in-Short-clause-appends
+returns-in_ok-refill-in-Short-clause-appends g c = appends_on _ _ _ _ _ _ _ c.in_ok-refill-in-Short.ensures.appends c.settle-in-Short.ensures.appends

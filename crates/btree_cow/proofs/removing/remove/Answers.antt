@@ -1,4 +1,5 @@
 use Rattle.std.proofs.lemmas.Result.{err_from_is_err_and}
+use Rattle.btree_cow.proofs.Growth.{later_on}
 use Rattle.btree_cow.proofs.Insertions.{root_fails, root_stands}
 use Rattle.btree_cow.proofs.Removals.{short_present, stored_present}
 use Rattle.btree_cow.proofs.removing.remove.Goals as goal
@@ -22,3 +23,6 @@ returns-in-Stored-clause-absent g c = λ told ok entries tree absent.
 pub returns-in-Short-clause-absent : goal.returns-in-Short-clause-absent
 returns-in-Short-clause-absent g c = λ told ok entries tree absent.
     absurd (short_present ok (g.P.Pages.shelf c.args.pages.now) (g.P.Pages.shelf c.remove_from.new.pages) c.args.root c.in-Some.at c.args.chunk c.in-Short.node entries c.in_ok-remove_from.field-0 c.in-Some.is c.in-Short.is (c.in_ok-remove_from.ensures.removes told) tree absent)
+
+pub returns-in-Short-clause-later : goal.returns-in-Short-clause-later
+returns-in-Short-clause-later g c = λ told. later_on _ _ _ (c.in_ok-remove_from.ensures.appends.later told) (c.root_of.ensures.appends.later told)
