@@ -21,7 +21,7 @@ exact_keys a b h =
 pub keys_total : IsTotalOrder key_cmp
 keys_total = then_total (on_total (λ k. k.store) nat_cmp_total) (on_total (λ k. k.key) nat_list_cmp_total)
 
-same_key : (a b : DocKey) → eq_by_cmp key_cmp a b ≡ true → a ≡ b
+pub same_key : (a b : DocKey) → eq_by_cmp key_cmp a b ≡ true → a ≡ b
 same_key a b h = exact_keys a b ((Equal-is (key_cmp a b)).0 h)
 
 -- a document that is set is got, and each other stays
@@ -46,6 +46,16 @@ got_removed m k q d e = by (eq_by_cmp key_cmp q k) (sym (finite.get-remove keys_
     by : (b : Bool) → cond b None (finite.get m q) ≡ Some d → finite.get m q ≡ Some d
     by true f = absurd (none-some d f)
     by false f = f
+
+pub removed_own : (m : Map) (k : DocKey) → finite.get (finite.remove m k) k ≡ None
+removed_own m k = finite.get-remove keys_total m k k ∙ ap (λ b. cond b None (finite.get m k)) ((eq_by_cmp_equiv keys_total).refl k)
+
+pub removed_other : (m : Map) (k q : DocKey) → q ≢ k → finite.get (finite.remove m k) q ≡ finite.get m q
+removed_other m k q n =
+    finite.get-remove keys_total m k q ∙ ap (λ b. cond b None (finite.get m q)) (false_from_ne_true (eq_by_cmp key_cmp q k) (λ e. n (same_key q k e)))
+
+pub retained_is : (m : Map) (p : DocKey → Bool) (q : DocKey) (b : Bool) → p q ≡ b → finite.get (finite.retain_keys m p) q ≡ cond b (finite.get m q) None
+retained_is m p q b e = finite.get-retain_keys m p q (λ x t. ap p (sym (exact_keys q x t))) ∙ ap (λ c. cond c (finite.get m q) None) e
 
 pub got_retained : (m : Map) (p : DocKey → Bool) (q : DocKey) (d : Doc) → finite.get (finite.retain_keys m p) q ≡ Some d → (p q ≡ true) × (finite.get m q ≡ Some d)
 got_retained m p q d e = by (p q) refl (sym (finite.get-retain_keys m p q (λ x t. ap p (sym (exact_keys q x t)))) ∙ e)

@@ -1,5 +1,5 @@
 -- What holds of each element, and of each and each later one, after a change of the list.
-use Rattle.std.proofs.Common.{◌≡◌, ◌≤◌, Bool, true, false, cond, List, [], ◌∷◌, ◌++◌, map, length, Some, None, refl, sym, subst, arith}
+use Rattle.std.proofs.Common.{◌≡◌, ◌≤◌, Bool, true, false, cond, List, [], ◌∷◌, ◌++◌, map, length, Some, None, refl, sym, ap, subst, arith}
 use Rattle.std.specs.List.{AllByRecursion, filter, find}
 use Rattle.std.proofs.lemmas.Option.{same_Some, none-some}
 use Rattle.forest_model.specs.State.{EachLater}
@@ -86,3 +86,18 @@ module _ {X : Type 0} where
       by : (b : Bool) → p x ≡ b → cond b (Some x) (find p xs) ≡ None → (find p xs ≡ None → AllByRecursion (λ x. p x ≡ false) xs) → (p x ≡ false) × AllByRecursion (λ x. p x ≡ false) xs
       by true t f later = absurd (none-some x (sym f))
       by false t f later = (t, later f)
+
+  -- what is found has a front in which none passes
+  pub record IsFirst (p : X → Bool) (xs : List X) (y : X) : Type 0 where
+    pub front : List X
+    pub back : List X
+    pub among : xs ≡ front ++ y ∷ back
+    pub none : AllByRecursion (λ x. p x ≡ false) front
+
+  pub found_first : (p : X → Bool) (xs : List X) (y : X) → find p xs ≡ Some y → IsFirst p xs y
+  found_first p [] y e = absurd (none-some y e)
+  found_first p (x ∷ xs) y e = by (p x) refl e (found_first p xs y)
+    where
+      by : (b : Bool) → p x ≡ b → cond b (Some x) (find p xs) ≡ Some y → (find p xs ≡ Some y → IsFirst p xs y) → IsFirst p (x ∷ xs) y
+      by true t f later = record { front = []; back = xs; among = ap (λ z. z ∷ xs) (same_Some x y f); none = tt }
+      by false t f later = let h = later f in record { front = x ∷ h.front; back = h.back; among = ap (λ l. x ∷ l) h.among; none = (t, h.none) }

@@ -1,5 +1,5 @@
 -- What a step's causes and its answer make of the reply and the state.
-use Rattle.std.proofs.Common.{◌≡◌, ◌≢◌, ℕ, Bool, true, false, cond, List, [], ◌∷◌, Option, Some, None, refl, sym, ap, ◌∙◌}
+use Rattle.std.proofs.Common.{◌≡◌, ℕ, Bool, true, false, cond, List, [], ◌∷◌, Option, Some, None, refl, sym, ap, ◌∙◌}
 use Rattle.std.specs.Option.{is_none, option_map_or}
 use Rattle.std.proofs.lemmas.Option.{none-some}
 use Rattle.forest_model.specs.Limits.{is_wrong_key}
@@ -17,13 +17,14 @@ use Rattle.forest_model.specs.declared.refusal.Refusal.{Refusal}
 use Rattle.forest_model.specs.declared.refusal.Refusal.TheVariants.{NotFound, KeyLength, NoStore}
 use Rattle.forest_model.specs.declared.state.State.{State}
 use Rattle.model_laws.specs.Laws.{reply_to, state_after}
+use Rattle.model_laws.specs.Answered.{IsAnswered}
 
 -- no cause of a list holds
 abbrev pub NoneHolds : List (Option Refusal) → Type 0
 NoneHolds [] = Unit {0}
 NoneHolds (cause ∷ causes) = (cause ≡ None) × NoneHolds causes
 
-none_holds : (causes : List (Option Refusal)) → first_cause causes ≡ None → NoneHolds causes
+pub none_holds : (causes : List (Option Refusal)) → first_cause causes ≡ None → NoneHolds causes
 none_holds [] e = tt
 none_holds (None ∷ causes) e = (refl, none_holds causes e)
 none_holds (Some why ∷ causes) e = absurd (none-some why (sym e))
@@ -48,14 +49,11 @@ pub step_keeps : (P : State → Type 0) (s : State) (file : File) (call : Call) 
 step_keeps P s file call h k = step_holds (λ x. P x.1) s file call (λ why. h) k
 
 -- a reply that is no refusal is the answer's, and no cause holds
-abbrev pub IsNoRefusal : Reply → Type 0
-IsNoRefusal reply = (why : Refusal) → Refused why ≢ reply
-
-answered : (o : Option Refusal) (s : State) (outcome : Outcome) (reply : Reply) → IsNoRefusal reply → (refused_or o s outcome).0 ≡ reply → (o ≡ None) × (refused_or o s outcome ≡ outcome)
+answered : (o : Option Refusal) (s : State) (outcome : Outcome) (reply : Reply) → IsAnswered reply → (refused_or o s outcome).0 ≡ reply → (o ≡ None) × (refused_or o s outcome ≡ outcome)
 answered None s outcome reply n e = (refl, refl)
 answered (Some why) s outcome reply n e = absurd (n why e)
 
-pub step_answers : (s : State) (file : File) (call : Call) (reply : Reply) → IsNoRefusal reply → reply_to s file call ≡ reply
+pub step_answers : (s : State) (file : File) (call : Call) (reply : Reply) → IsAnswered reply → reply_to s file call ≡ reply
     → NoneHolds (causes s call) × (step_of s file call ≡ answer s call)
 step_answers s file call reply n e =
     let a = answered (first_cause (causes s call)) s (refused_or (full s file call) s (answer s call)) reply n e in

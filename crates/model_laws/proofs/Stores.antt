@@ -1,14 +1,14 @@
 -- What the table of stores has after a change of it.
 use Rattle.std.proofs.Common.{◌≡◌, ◌≢◌, ℕ, ◌≤◌, ◌<◌, Bool, true, false, cond, not, List, [], ◌∷◌, ◌++◌, Option, Some, None, refl, sym, ap, subst, ◌∙◌, arith}
 use Rattle.std.specs.Bool.{◌==◌}
-use Rattle.std.specs.List.{find}
+use Rattle.std.specs.List.{AllByRecursion, find}
 use Rattle.std.specs.Option.{option_map, option_map_or, is_none}
-use Rattle.std.proofs.lemmas.Bool.{eqb-true, eq-eqb, ne_eqb, cond-true, true≢false}
+use Rattle.std.proofs.lemmas.Bool.{eqb-true, eq-eqb, ne_eqb, cond-true, cond-false, true≢false}
 use Rattle.std.proofs.lemmas.Option.{same_Some, none-some}
 use Rattle.forest_model.specs.Stores.{store_of, seq_of, at_seq, with_seq, without}
 use Rattle.forest_model.specs.State.{EachLater, OfStore}
 use Rattle.forest_model.specs.declared.state.Store.{Store}
-use Rattle.model_laws.proofs.Lists.{found_passes, found_has}
+use Rattle.model_laws.proofs.Lists.{all_weaker, found_passes, found_has}
 
 -- ids rise, and names differ
 abbrev pub Apart : Store → Store → Type 0
@@ -61,6 +61,34 @@ found_id stores k s e = eqb-true s.id k (found_passes (λ t. t.id == k) stores s
 
 pub seq_at : (stores : List Store) (k : ℕ) (s : Store) → store_of stores k ≡ Some s → seq_of stores k ≡ s.seq
 seq_at stores k s e = ap (λ (o : Option Store). option_map_or (λ t. t.seq) o 0) e
+
+pub at_seq_other : (id seq : ℕ) (s : Store) → s.id ≢ id → at_seq id seq s ≡ s
+at_seq_other id seq s n = cond-false (s.id == id) _ _ (ne_eqb s.id id n)
+
+pub others-with_seq : (stores : List Store) (id seq k : ℕ) → k ≢ id → store_of (with_seq stores id seq) k ≡ store_of stores k
+others-with_seq stores id seq k n = store_of-with_seq stores id seq k ∙ by (store_of stores k) refl
+  where
+    by : (o : Option Store) → store_of stores k ≡ o → option_map (at_seq id seq) o ≡ o
+    by None e = refl
+    by (Some s) e = ap Some (at_seq_other id seq s (λ same. n (sym (found_id stores k s e) ∙ same)))
+
+-- the store of an id after a removal
+pub gone-without : (stores : List Store) (id : ℕ) → store_of (without stores id) id ≡ None
+gone-without [] id = refl
+gone-without (s ∷ stores) id = by (s.id == id) refl (gone-without stores id)
+  where
+    by : (b : Bool) → (s.id == id) ≡ b → store_of (without stores id) id ≡ None → store_of (cond (not b) (s ∷ without stores id) (without stores id)) id ≡ None
+    by true t later = later
+    by false t later = cond-false (s.id == id) _ _ t ∙ later
+
+pub others-without : (stores : List Store) (id k : ℕ) → k ≢ id → store_of (without stores id) k ≡ store_of stores k
+others-without [] id k n = refl
+others-without (s ∷ stores) id k n = by (s.id == id) refl (others-without stores id k n)
+  where
+    by : (b : Bool) → (s.id == id) ≡ b → store_of (without stores id) k ≡ store_of stores k
+        → store_of (cond (not b) (s ∷ without stores id) (without stores id)) k ≡ cond (s.id == k) (Some s) (store_of stores k)
+    by true t later = later ∙ sym (cond-false (s.id == k) _ _ (ne_eqb s.id k (λ e. n (sym e ∙ eqb-true s.id id t))))
+    by false t later = ap (cond (s.id == k) (Some s)) later
 
 -- what holds of a store holds after a change that it bears
 pub of-with_seq : (P : Store → Type 0) (stores : List Store) (id seq k : ℕ) → ((s : Store) → store_of stores k ≡ Some s → P s → P (at_seq id seq s))
@@ -133,3 +161,19 @@ found_by_id (t ∷ stores) p s a e = by (p t) e (found_by_id stores p s a.1)
     by false f later =
         let less : t.id < s.id = (found_has (Apart t) p stores s a.0 f).0 in
         ap (λ b. cond b (Some t) (store_of stores s.id)) (ne_eqb t.id s.id (λ e. omega arith)) ∙ later f
+
+-- a store at its own number stays, and so does the table
+absent-with_seq : (stores : List Store) (id seq : ℕ) → AllByRecursion (λ s. id < s.id) stores → with_seq stores id seq ≡ stores
+absent-with_seq [] id seq a = refl
+absent-with_seq (s ∷ stores) id seq a = λ i. at_seq_other id seq s (λ e. omega (arith, a.0, e)) i ∷ absent-with_seq stores id seq a.1 i
+
+pub same-with_seq : (stores : List Store) (id : ℕ) → EachLater Apart stores → with_seq stores id (seq_of stores id) ≡ stores
+same-with_seq [] id a = refl
+same-with_seq (s ∷ stores) id a = by (s.id == id) refl (same-with_seq stores id a.1)
+  where
+    by : (b : Bool) → (s.id == id) ≡ b → with_seq stores id (seq_of stores id) ≡ stores
+        → with_seq (s ∷ stores) id (option_map_or (λ t. t.seq) (cond b (Some s) (store_of stores id)) 0) ≡ s ∷ stores
+    by true t later =
+        let own : s.id ≡ id = eqb-true s.id id t in
+        λ i. at_seq_own id s.seq s own i ∷ absent-with_seq stores id s.seq (all_weaker (Apart s) (λ x. id < x.id) (λ x w. subst (λ n. n < x.id) own w.0) stores a.0) i
+    by false t later = λ i. cond-false (s.id == id) (record s { seq = seq_of stores id }) s t i ∷ later i

@@ -1,8 +1,9 @@
 -- What holds of every step of the sequential store, in words of its own.
-use Rattle.std.specs.Prelude.{◌≡◌, ◌≢◌, ℕ, ◌+◌, ◌<◌, ◌≤◌, ◌⊎◌, ◌↔◌, Bool, true, false, List, [], ◌∷◌, ◌++◌, IsTrue}
+use Rattle.std.specs.Prelude.{◌≡◌, ◌≢◌, ℕ, ◌+◌, ◌<◌, ◌≤◌, ◌⊎◌, ◌↔◌, Bool, true, false, List, [], ◌∷◌, ◌++◌, None, IsTrue}
 use Rattle.std.specs.List.{list_all}
 use Rattle.forest_model.specs.Documents.{key_at, doc_of}
-use Rattle.forest_model.specs.State.{IsState, retained, durable_of, nothing_new}
+use Rattle.forest_model.specs.Stores.{store_of}
+use Rattle.forest_model.specs.State.{IsState, OfStore, retained, durable_of, nothing_new}
 use Rattle.forest_model.specs.Blocks.{File, is_records, last_header}
 use Rattle.forest_model.specs.Run.{unflushed_from}
 use Rattle.forest_model.specs.Step.{step_of, found_of}
@@ -64,7 +65,7 @@ OthersStay = (s : State) (file later : File) (at by : StoreRef) (key meta body o
 abbrev pub NothingNewMeans : Type 0
 NothingNewMeans = (s : State) → IsTrue (nothing_new s) ↔ ((s.stores ≡ s.last.stores) × (s.documents ≡ s.last.documents))
 
--- A rollback's state has the stores and documents of the named commit, and the commits up to it.
+-- A rollback's state has the stores and documents of the named commit, and the commits up to it. Nothing is copied, before and after.
 pub record IsRolledBack (s after : State) (number : ℕ) : Type 0 where
   pub target : CommitRow
   pub newer : List CommitRow
@@ -74,6 +75,12 @@ pub record IsRolledBack (s after : State) (number : ℕ) : Type 0 where
   pub commits : retained after ≡ target ∷ older
   pub stores : after.stores ≡ target.stores
   pub documents : after.documents ≡ target.documents
+  -- drawn numbers stay, and the file
+  pub drawn : (after.next_commit ≡ s.next_commit) × (after.next_store ≡ s.next_store) × (after.next_ticket ≡ s.next_ticket)
+  pub file : (after.revision ≡ s.revision) × (after.generation ≡ s.generation) × (after.limits ≡ s.limits)
+  pub idle : (s.copying ≡ None) × (after.copying ≡ None)
+  -- nothing changes, or a header is written
+  pub written : (after ≡ s) ⊎ ((after.place ≡ s.place + 1) × (after.kept ≡ s.next_store) × (after.loose ≡ 0))
 
 abbrev pub RollbackReturns : Type 0
 RollbackReturns = (s : State) (file : File) (at : StoreRef) (number : ℕ)
@@ -88,6 +95,15 @@ after_all s (c ∷ calls) = after_all (state_after s c.0 c.1) calls
 abbrev pub DrawnStay : Type 0
 DrawnStay = (s : State) (calls : List (File × Call))
     → (s.next_commit ≤ (after_all s calls).next_commit) × (s.next_store ≤ (after_all s calls).next_store) × (s.next_ticket ≤ (after_all s calls).next_ticket)
+
+-- a store that has come to a sequence number stays there or goes further, or is gone; a rollback alone takes it back
+abbrev pub is_rollback : Call → Bool
+is_rollback (Rollback at number) = true
+is_rollback call = false
+
+abbrev pub SeqStays : Type 0
+SeqStays = (s : State) (file : File) (call : Call) (id n : ℕ) → is_rollback call ≡ false → OfStore (store_of s.stores id) (λ st. n ≤ st.seq)
+    → (store_of (state_after s file call).stores id ≡ None) ⊎ OfStore (store_of (state_after s file call).stores id) (λ st. n ≤ st.seq)
 
 -- a number that is drawn is the one to be drawn next, and lies below those to be drawn afterwards
 abbrev pub CommitDraws : Type 0
@@ -109,7 +125,10 @@ pub record IsSwitched (s after : State) (number : ℕ) : Type 0 where
   pub stores : after.stores ≡ s.stores
   pub documents : after.documents ≡ s.documents
   pub numbers : (after.next_commit ≡ s.next_commit) × (after.next_store ≡ s.next_store) × (after.next_ticket ≡ s.next_ticket)
-  pub file : (after.revision ≡ s.revision + 1) × (after.generation ≡ s.generation + 1)
+  pub file : (after.revision ≡ s.revision + 1) × (after.generation ≡ s.generation + 1) × (after.limits ≡ s.limits)
+  pub idle : after.copying ≡ None
+  pub kept : after.kept ≡ s.next_store
+  pub open_block : s.loose < 4064 → after.loose ≡ s.loose
   pub place : after.place ≡ s.place + 1
 
 abbrev pub SwitchKeeps : Type 0

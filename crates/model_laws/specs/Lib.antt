@@ -1,1 +1,7 @@
+pub mod Answered
+pub mod Commits
 pub mod Laws
+pub mod Reads
+pub mod Refusals
+pub mod Tables
+pub mod Writes

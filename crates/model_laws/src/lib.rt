@@ -4,7 +4,13 @@
 //! is proved here of the very definitions that the engine's contracts cite.
 #![tactic(auto)]
 
-ghost use Rattle.model_laws.specs.Laws.{RefusedLeaves, ReadsLeave, PlaceTells, RulesStay, SetIsGot, OthersStay, NothingNewMeans, RollbackReturns, DrawnStay, CommitDraws, BeginDraws, StoreDraws, SwitchKeeps, DurableStays, RecordsKeepHeader};
+ghost use Rattle.model_laws.specs.Laws.{RefusedLeaves, ReadsLeave, PlaceTells, RulesStay, SetIsGot, OthersStay, NothingNewMeans, RollbackReturns, DrawnStay, SeqStays, CommitDraws, BeginDraws, StoreDraws, SwitchKeeps, DurableStays, RecordsKeepHeader};
+ghost use Rattle.model_laws.specs.Answered.{AnsweredExactly};
+ghost use Rattle.model_laws.specs.Refusals.{RefusedExactly};
+ghost use Rattle.model_laws.specs.Writes.{SetDraws, DeleteTakes, BatchIsItems};
+ghost use Rattle.model_laws.specs.Tables.{OpenFinds, OpenMakes, RemoveTakes};
+ghost use Rattle.model_laws.specs.Commits.{CommitKeeps, CommitAgain, BeginNames, DeltaTells, CancelEnds};
+ghost use Rattle.model_laws.specs.Reads.{GetTells, BySeqTells, OneDocument, InfoTells, MarkersTell, SnapsTell, SnapAtShows, SnapLatestShows};
 
 /// A refused call and a call that reads leave the state, and any other raises the place by one.
 pub fn refusals_and_reads()
@@ -18,10 +24,63 @@ pub fn rules()
     ensures { RulesStay }
 {}
 
-/// A document just set is got, and no other key's reply moves.
+/// A call is answered exactly where no cause of a refusal holds, and else refused by the first that does.
+pub fn answers()
+    ensures answered { AnsweredExactly }
+    ensures refused { RefusedExactly }
+{}
+
+/// A set draws the store's next number for its key. A document just set is got, and no other key's reply moves.
 pub fn sets()
+    ensures draws { SetDraws }
     ensures got { SetIsGot }
     ensures others { OthersStay }
+{}
+
+/// A delete takes exactly its key away.
+pub fn deletes()
+    ensures { DeleteTakes }
+{}
+
+/// A batch is its items one after another, at one place.
+pub fn batches()
+    ensures { BatchIsItems }
+{}
+
+/// Opening a name answers its store or makes one, and a removal takes one with its documents.
+pub fn tables()
+    ensures found { OpenFinds }
+    ensures made { OpenMakes }
+    ensures removed { RemoveTakes }
+{}
+
+/// A commit keeps exactly the present stores and documents.
+pub fn new_commits()
+    ensures kept { CommitKeeps }
+    ensures again { CommitAgain }
+{}
+
+/// What the calls of a compaction before its switch answer and change.
+pub fn compactions()
+    ensures begun { BeginNames }
+    ensures delta { DeltaTells }
+    ensures cancelled { CancelEnds }
+{}
+
+/// What the calls that read answer.
+pub fn reads()
+    ensures got { GetTells }
+    ensures numbered { BySeqTells }
+    ensures one { OneDocument }
+    ensures info { InfoTells }
+    ensures markers { MarkersTell }
+{}
+
+/// What a snapshot shows that is taken.
+pub fn snapshots()
+    ensures told { SnapsTell }
+    ensures commit { SnapAtShows }
+    ensures latest { SnapLatestShows }
 {}
 
 /// Nothing is new exactly where stores and documents equal those of the last commit.
@@ -34,9 +93,10 @@ pub fn rollbacks()
     ensures { RollbackReturns }
 {}
 
-/// A commit number, a store id and a ticket that was drawn never comes again.
+/// A commit number, a store id and a ticket that was drawn never comes again, and a sequence number only behind a rollback.
 pub fn draws()
     ensures stay { DrawnStay }
+    ensures seqs { SeqStays }
     ensures commits { CommitDraws }
     ensures tickets { BeginDraws }
     ensures stores { StoreDraws }

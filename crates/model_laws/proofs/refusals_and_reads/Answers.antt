@@ -8,12 +8,13 @@ use Rattle.forest_model.specs.declared.call.Call.{Call}
 use Rattle.forest_model.specs.declared.call.Call.TheVariants.{Set, Delete, Batch, Get, BySeq, Info, Markers, StoreOpen, StoreRemove, Commit, Rollback, SnapLatest, SnapAt, Begin, Delta, Switch, Cancel}
 use Rattle.forest_model.specs.declared.state.State.{State}
 use Rattle.model_laws.specs.Laws.{RefusedLeaves, PlaceTells}
-use Rattle.model_laws.proofs.Steps.{IsNoRefusal, step_holds, by_option, by_test}
+use Rattle.model_laws.specs.Answered.{IsAnswered}
+use Rattle.model_laws.proofs.Steps.{step_holds, by_option, by_test}
 use Rattle.model_laws.proofs.refusals_and_reads.Goals as goal
 
 -- nothing has changed, or the place is one further and the reply is no refusal
 abbrev Tells : State → Outcome → Type 0
-Tells s outcome = (outcome.1 ≡ s) ⊎ ((outcome.1.place ≡ s.place + 1) × IsNoRefusal outcome.0)
+Tells s outcome = (outcome.1 ≡ s) ⊎ ((outcome.1.place ≡ s.place + 1) × IsAnswered outcome.0)
 
 answer_tells : (s : State) (call : Call) → Tells s (answer s call)
 answer_tells s (Set at key meta body) = inr (refl, λ why e. cc)

@@ -7,10 +7,23 @@ use Rattle.forest_model.specs.Step.{Outcome, answer, next_seq, found_of}
 use Rattle.forest_model.specs.declared.call.Call.TheVariants.{Set, Get}
 use Rattle.forest_model.specs.declared.call.Reply.TheVariants.{Seq, Document}
 use Rattle.model_laws.specs.Laws.{SetIsGot, OthersStay, reply_to}
+use Rattle.model_laws.specs.Writes.{SetDraws, IsSet}
+use Rattle.model_laws.proofs.Free.{answered_has}
 use Rattle.model_laws.proofs.Keys.{got_own, got_other}
 use Rattle.model_laws.proofs.Stores.{gone-with_seq}
 use Rattle.model_laws.proofs.Steps.{unmet, step_keeps, step_answers, get_reply, get_says}
+use Rattle.model_laws.proofs.Writing.{written_draws, appends_are}
 use Rattle.model_laws.proofs.sets.Goals as goal
+
+set_draws : SetDraws
+set_draws s file at key meta body h =
+    answered_has (λ o. IsSet s o.1 o.0 at.store key meta body) s file (Set at key meta body) h
+    (λ free. record {
+      draws = written_draws s at (next_seq s at) 1 _ _ (unmet _ _ free.1.1.1.0) refl;
+      own = got_own s.documents (key_at at.store key) (doc_of (next_seq s at) meta body);
+      others = λ k n. got_other s.documents (key_at at.store key) k (doc_of (next_seq s at) meta body) n;
+      appends = appends_are s (answer s (Set at key meta body)).1 _ _ refl refl;
+    })
 
 set_is_got : SetIsGot
 set_is_got s file later at by key meta body seq e same =
@@ -34,6 +47,9 @@ others_stay s file later at by key meta body other n =
     (λ e. get_says (answer s (Set at key meta body)).1 later by other
     ∙ (λ i. get_reply other (is_wrong_key other) (stores i) (documents i))
     ∙ sym (get_says s later by other))
+
+pub returns-clause-draws : goal.returns-clause-draws
+returns-clause-draws c = set_draws
 
 pub returns-clause-got : goal.returns-clause-got
 returns-clause-got c = set_is_got

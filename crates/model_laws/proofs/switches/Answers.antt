@@ -1,4 +1,4 @@
-use Rattle.std.proofs.Common.{◌≡◌, refl, sym, ap, subst, ◌∙◌}
+use Rattle.std.proofs.Common.{◌≡◌, refl, sym, ap, subst, ◌∙◌, arith}
 use Rattle.forest_model.specs.Step.{Outcome, answer}
 use Rattle.forest_model.specs.declared.call.Call.TheVariants.{Switch}
 use Rattle.forest_model.specs.declared.call.Reply.TheVariants.{Switched}
@@ -16,7 +16,10 @@ switch_keeps s file at ticket left number e =
       stores = refl;
       documents = refl;
       numbers = (refl, refl, refl);
-      file = (refl, refl);
+      file = (refl, refl, refl);
+      idle = refl;
+      kept = refl;
+      open_block = λ h. omega (arith, h);
       place = refl;
     } in
     subst (λ (o : Outcome). IsSwitched s o.1 number) (sym a.1) kept
