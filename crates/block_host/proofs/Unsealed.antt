@@ -4,7 +4,7 @@ use Rattle.std.specs.Prelude.{◌&&◌, ◌==◌, nat_le, Option, Some, None, if
 use Rattle.std.proofs.lemmas.Bool.{and_parts, and_from, leb-true, le-leb, eqb-true, eq-eqb}
 use Rattle.std.proofs.lemmas.Option.{none-some, same_Some}
 use Rattle.block_host.specs.Found.{kind_in, used_in, payload_in, same_bytes, is_sealed, found_in}
-use Rattle.block_host.specs.Sealed.{IsSealed, with_checksum, sealed_front}
+use Rattle.block_host.specs.Sealed.{IsSealed, with_checksum, sealed_front, is_whole}
 use Rattle.block_host.specs.declared.block.Block.{Block}
 use Rattle.block_host.proofs.Back.{kind_back, used_back, payload_back}
 
@@ -24,18 +24,21 @@ sealed-to : (revision at kind : ℕ) (payload : List ℕ) (b : Block) → is_sea
 unfolding is_sealed
 sealed-to revision at kind payload b h =
     let whole = with_checksum (sealed_front revision at kind payload) in
-    let p = and_parts (nat_le 1 kind && nat_le kind 5 && nat_le (length payload) 4064) (same_bytes b.bytes whole) h in
+    let w = and_parts (nat_le 1 kind && nat_le kind 5 && nat_le (length payload) 4064 && same_bytes b.bytes whole) (is_whole b.bytes) h in
+    let p = and_parts (nat_le 1 kind && nat_le kind 5 && nat_le (length payload) 4064) (same_bytes b.bytes whole) w.0 in
     let q = and_parts (nat_le 1 kind && nat_le kind 5) (nat_le (length payload) 4064) p.0 in
     let r = and_parts (nat_le 1 kind) (nat_le kind 5) q.0 in
-    record { least = leb-true 1 kind r.0; greatest = leb-true kind 5 r.1; fits = leb-true (length payload) 4064 q.1; bytes = same-to b.bytes whole p.1 }
+    record { least = leb-true 1 kind r.0; greatest = leb-true kind 5 r.1; fits = leb-true (length payload) 4064 q.1; bytes = same-to b.bytes whole p.1; whole = w.1 }
 
 sealed-from : (revision at kind : ℕ) (payload : List ℕ) (b : Block) → IsSealed revision at kind payload b → is_sealed revision at kind payload b ≡ true
 unfolding is_sealed
 sealed-from revision at kind payload b sealed =
     let whole = with_checksum (sealed_front revision at kind payload) in
-    and_from (nat_le 1 kind && nat_le kind 5 && nat_le (length payload) 4064) (same_bytes b.bytes whole)
+    and_from (nat_le 1 kind && nat_le kind 5 && nat_le (length payload) 4064 && same_bytes b.bytes whole) (is_whole b.bytes)
+    (and_from (nat_le 1 kind && nat_le kind 5 && nat_le (length payload) 4064) (same_bytes b.bytes whole)
     (and_from (nat_le 1 kind && nat_le kind 5) (nat_le (length payload) 4064) (and_from (nat_le 1 kind) (nat_le kind 5) (le-leb 1 kind sealed.least) (le-leb kind 5 sealed.greatest)) (le-leb (length payload) 4064 sealed.fits))
-    (ap (λ (l : List ℕ). same_bytes l whole) sealed.bytes ∙ same-from whole)
+    (ap (λ (l : List ℕ). same_bytes l whole) sealed.bytes ∙ same-from whole))
+    sealed.whole
 
 kind_is : (revision at kind : ℕ) (payload : List ℕ) (b : Block) → IsSealed revision at kind payload b → kind_in b ≡ kind
 unfolding kind_in

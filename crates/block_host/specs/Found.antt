@@ -1,7 +1,7 @@
 -- What an unsealing finds in a block: sealing is decidable, by sealing again what stands there.
 use Rattle.std.specs.Prelude.{◌==◌, ◌&&◌, ℕ, Bool, true, false, List, [], ◌∷◌, length, take, nat_le, slice_index, Option, Some, None, if◌then◌else◌}
 use Rattle.std.specs.Int.{w16, from_be_bytes}
-use Rattle.block_host.specs.Sealed.{with_checksum, sealed_front}
+use Rattle.block_host.specs.Sealed.{with_checksum, sealed_front, is_whole}
 use Rattle.block_host.specs.declared.block.Block.{Block}
 
 -- the kind that stands in a block
@@ -26,7 +26,7 @@ same_bytes (x ∷ xs) (y ∷ ys) = (x == y) && same_bytes xs ys
 unfoldable pub is_sealed : ℕ → ℕ → ℕ → List ℕ → Block → Bool
 is_sealed revision at kind payload b =
     nat_le 1 kind && nat_le kind 5 && nat_le (length payload) 4064
-    && same_bytes b.bytes (with_checksum (sealed_front revision at kind payload))
+    && same_bytes b.bytes (with_checksum (sealed_front revision at kind payload)) && is_whole b.bytes
 
 -- the kind and the payload of a block, if it is sealed for this revision and number
 unfoldable pub found_in : ℕ → ℕ → Block → Option (ℕ × List ℕ)
