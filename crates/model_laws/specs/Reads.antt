@@ -5,7 +5,7 @@ use Rattle.forest_model.specs.Documents.{Map, doc_at, count_of}
 use Rattle.forest_model.specs.Stores.{store_of}
 use Rattle.forest_model.specs.State.{IsState, OfStore, retained}
 use Rattle.forest_model.specs.Blocks.{File}
-use Rattle.forest_model.specs.Session.{Snapshot, Lane, opened_snapshot}
+use Rattle.forest_model.specs.Session.{Snapshot, opened_snapshot}
 use Rattle.forest_model.specs.declared.call.StoreRef.{StoreRef}
 use Rattle.forest_model.specs.declared.call.Found.{Found}
 use Rattle.forest_model.specs.declared.call.Info.{Info as InfoRow}
@@ -13,7 +13,6 @@ use Rattle.forest_model.specs.declared.call.Call.TheVariants.{Get, BySeq, Info, 
 use Rattle.forest_model.specs.declared.call.Reply.{Reply}
 use Rattle.forest_model.specs.declared.call.Reply.TheVariants.{Document, InfoIs, MarkersAre, Snapped}
 use Rattle.forest_model.specs.declared.documents.Doc.{Doc}
-use Rattle.forest_model.specs.declared.line.Verb.TheVariants as verbs
 use Rattle.forest_model.specs.declared.state.Commit.{Commit}
 use Rattle.forest_model.specs.declared.state.Copying.{Copying}
 use Rattle.forest_model.specs.declared.state.State.{State}
@@ -87,12 +86,12 @@ pub record ShowsCommit (s : State) (id seq : ℕ) (snapshot : Snapshot) : Type 0
   pub shows : (snapshot.stores ≡ commit.stores) × (snapshot.documents ≡ commit.documents) × (snapshot.commit ≡ commit.number)
   pub place : snapshot.place ≡ s.place
 
--- the snapshot that a lane opens of a sequence number, where that is answered
+-- the snapshot that is opened of a sequence number, where that is answered
 abbrev pub SnapAtShows : Type 0
-SnapAtShows = (s : State) (file : File) (lane : Lane) (seq : ℕ) → IsAnswered (reply_to s file (SnapAt lane.at seq))
-    → (snapshot : Snapshot) × (opened_snapshot lane (verbs.SnapAt seq) s ≡ Some snapshot) × ShowsCommit s lane.at.store seq snapshot
+SnapAtShows = (s : State) (file : File) (at : StoreRef) (seq : ℕ) → IsAnswered (reply_to s file (SnapAt at seq))
+    → (snapshot : Snapshot) × (opened_snapshot (SnapAt at seq) s ≡ Some snapshot) × ShowsCommit s at.store seq snapshot
 
 -- and that of the present
 abbrev pub SnapLatestShows : Type 0
-SnapLatestShows = (s : State) (lane : Lane)
-    → opened_snapshot lane verbs.SnapLatest s ≡ Some (record { place = s.place; stores = s.stores; documents = s.documents; commit = s.last.number })
+SnapLatestShows = (s : State)
+    → opened_snapshot SnapLatest s ≡ Some (record { place = s.place; stores = s.stores; documents = s.documents; commit = s.last.number })

@@ -15,9 +15,9 @@ use Rattle.model_laws.proofs.Steps.{unmet}
 use Rattle.model_laws.proofs.snapshots.Goals as goal
 
 snap_at_shows : SnapAtShows
-snap_at_shows s file lane seq h =
-    let id = lane.at.store in
-    let free = answered_free s file (SnapAt lane.at seq) h in
+snap_at_shows s file at seq h =
+    let id = at.store in
+    let free = answered_free s file (SnapAt at seq) h in
     let found = (some_is (find (has_seq id seq) (retained s))).0 (unmet _ _ free.causes.1.0) in
     let first = found_first (has_seq id seq) (retained s) found.0 found.1 in (
       snapshot_of s found.0,
