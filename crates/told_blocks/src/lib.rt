@@ -7,6 +7,3 @@ mod blocks;
 mod seen;
 
 pub use blocks::ToldBlocks;
-
-#[cfg(test)]
-mod tests;
