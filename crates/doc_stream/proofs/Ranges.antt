@@ -64,32 +64,39 @@ spread_front : (a c : List ℕ) (xs b1 b2 : List Piece) → length a ≤ length 
 spread_front a c [] b1 b2 le one two = absurd one
 spread_front a c (p ∷ ps) b1 b2 le one two = elim one [
   | inl x ↦ elim two [
-      | inl y ↦
-          (let f = split_front a x.0 c y.0 (sym x.1 ∙ y.1) le in
-          let lengths = ap length f.1 ∙ length-append a f.0 in
-          (f.0, f.1, λ none.
+    | inl y ↦
+        (let f = split_front a x.0 c y.0 (sym x.1 ∙ y.1) le in
+        let lengths = ap length f.1 ∙ length-append a f.0 in (
+          f.0,
+          f.1,
+          λ none.
               let nothing : f.0 ≡ [] = nil_from_length f.0 none in
               let same : x.0 ≡ y.0 = f.2 ∙ ap (λ (l : List ℕ). l ++ y.0) nothing in
               let at : p.offset + length a ≡ p.offset + length c = omega arith in
               let make : ℕ → List ℕ → List Piece = λ n b. record { block = p.block; offset = n; bytes = b } ∷ ps in
-              x.2 ∙ ap (λ (n : ℕ). make n x.0) at ∙ ap (λ (l : List ℕ). make (p.offset + length c) l) same ∙ sym y.2))
-      | inr y ↦
-          ((x.0 ++ y.0, y.1 ∙ ap (λ (l : List ℕ). l ++ y.0) x.1 ∙ append_assoc a x.0 y.0, λ none.
+              x.2 ∙ ap (λ (n : ℕ). make n x.0) at ∙ ap (λ (l : List ℕ). make (p.offset + length c) l) same ∙ sym y.2,
+        ))
+    | inr y ↦
+        ((
+          x.0 ++ y.0,
+          y.1 ∙ ap (λ (l : List ℕ). l ++ y.0) x.1 ∙ append_assoc a x.0 y.0,
+          λ none.
               let lengths = length-append x.0 y.0 in
-              absurd (y.2 (nil_from_length y.0 (omega arith)))))
-    ]
+              absurd (y.2 (nil_from_length y.0 (omega arith))),
+        ))
+  ]
   | inr x ↦ elim two [
-      | inl y ↦
-          (let long = ap length x.1 ∙ length-append p.bytes x.0 in
-          let all = ap length y.1 ∙ length-append c y.0 in
-          let none : length x.0 ≡ 0 = omega arith in
-          absurd (x.2 (nil_from_length x.0 none)))
-      | inr y ↦
-          (let long = ap length x.1 ∙ length-append p.bytes x.0 in
-          let all = ap length y.1 ∙ length-append p.bytes y.0 in
-          let f = spread_front x.0 y.0 ps b1 b2 (omega arith) x.5 y.5 in
-          (f.0, y.1 ∙ ap (λ (l : List ℕ). p.bytes ++ l) f.1 ∙ sym (append_assoc p.bytes x.0 f.0) ∙ ap (λ (l : List ℕ). l ++ f.0) (sym x.1), f.2))
-    ]
+    | inl y ↦
+        (let long = ap length x.1 ∙ length-append p.bytes x.0 in
+        let all = ap length y.1 ∙ length-append c y.0 in
+        let none : length x.0 ≡ 0 = omega arith in
+        absurd (x.2 (nil_from_length x.0 none)))
+    | inr y ↦
+        (let long = ap length x.1 ∙ length-append p.bytes x.0 in
+        let all = ap length y.1 ∙ length-append p.bytes y.0 in
+        let f = spread_front x.0 y.0 ps b1 b2 (omega arith) x.5 y.5 in
+        (f.0, y.1 ∙ ap (λ (l : List ℕ). p.bytes ++ l) f.1 ∙ sym (append_assoc p.bytes x.0 f.0) ∙ ap (λ (l : List ℕ). l ++ f.0) (sym x.1), f.2))
+  ]
 ]
 
 -- no record's bytes begin with another's
@@ -248,8 +255,7 @@ module _ (revision : ℕ) (file : List Block) (tail : OpenBlock) where
     | inl x ↦ ([], record { block = p.block; offset = p.offset + length bytes; bytes = x.0 } ∷ [], tt, inl (x.0, x.1, refl))
     | inr x ↦
         (let w = wholes.0 in
-        let on = held_on x.0 q ps behind wholes.1 x.5 in
-        (
+        let on = held_on x.0 q ps behind wholes.1 x.5 in (
           q ∷ on.0,
           on.1,
           (x.4, w.offset, holds (p.block + 1) q.bytes (λ same. w.not_open (x.4 ∙ same)) (subst (λ (n : ℕ). Stands revision file n 1 q.bytes) x.4 w.stands), subst (λ (n : ℕ). AreHeld revision file tail (n + 1) on.0) x.4 on.2),

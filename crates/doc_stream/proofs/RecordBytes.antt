@@ -116,11 +116,17 @@ module _ (asked : Asked) (file : List Block) (old mid : Place) (head : List ℕ)
       record {
         reached = omega arith;
         within = subst (λ (n : ℕ). IsWithin asked.tail asked.end n) block within;
-        breaks = (head, inr (inl (long, never), record {
-          last = in_hand mid;
-          begins = subst (λ (l : List ℕ). Begins asked file (in_hand old) l (in_hand mid)) (append-nil head) (takes.begins [] (in_hand mid) (begins_none asked file (in_hand mid)));
-          in_block = refl;
-        }));
+        breaks = (
+          head,
+          inr (
+            inl (long, never),
+            record {
+              last = in_hand mid;
+              begins = subst (λ (l : List ℕ). Begins asked file (in_hand old) l (in_hand mid)) (append-nil head) (takes.begins [] (in_hand mid) (begins_none asked file (in_hand mid)));
+              in_block = refl;
+            },
+          ),
+        );
         broken = λ other r behind same is s. never r is (head_front (mid.next - 1 + 1) other r behind (omega arith) same s).0;
       }
 
@@ -222,10 +228,13 @@ module _ (asked : Asked) (file : List Block) (old mid : Place) (head : List ℕ)
           record {
             reached = omega arith;
             within = subst (λ (n : ℕ). IsWithin asked.tail asked.end n) block within;
-            breaks = (head ++ behind_head rec, inr (
-              inr (head, behind_head rec, count, is_head, refl, counted, λ r is same. form_of r is (no_other r is same) never),
-              record { last = in_hand new; begins = begins_record; in_block = refl },
-            ));
+            breaks = (
+              head ++ behind_head rec,
+              inr (
+                inr (head, behind_head rec, count, is_head, refl, counted, λ r is same. form_of r is (no_other r is same) never),
+                record { last = in_hand new; begins = begins_record; in_block = refl },
+              ),
+            );
             broken = λ other r behind same is s.
                 form_of r is (parts_front other r behind (subst (λ (n : ℕ). SameBelow n file other) (sym block) same) is s).0 never;
           }
