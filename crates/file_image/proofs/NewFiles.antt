@@ -28,12 +28,15 @@ module _ (image : Image) (new : IsNewStore image) where
   slot_one : IsSlot 0 (1, 1) new.slot
   slot_one = record { generation = omega arith; revision = omega arith; is_sealed = new.slot_is }
 
+  no_second : Says 1 (block_at (image 0) 1) None
+  no_second = subst (λ (block : Block). Says 1 block None) (sym (ap (λ file. block_at file 1) new.meta)) (zeros_say 1)
+
   counts : IsCurrent (block_at (image 0) 0) (block_at (image 0) 1) (Some (1, 1))
   counts = record {
     first = Some (1, 1);
     second = None;
     says_first = subst (IsSlot 0 (1, 1)) (sym (ap (λ file. block_at file 0) new.meta)) slot_one;
-    says_second = subst (λ (block : Block). Says 1 block None) (sym (ap (λ file. block_at file 1) new.meta)) (zeros_say 1);
+    says_second = no_second;
     is = refl;
   }
 
@@ -61,7 +64,7 @@ module _ (image : Image) (new : IsNewStore image) where
   }
 
   names : Names (image 0) 1 1
-  names = record { slot = counts; not_meta = omega arith; apart = λ a b first second same. counts.says_second b second }
+  names = record { slot = counts; not_meta = omega arith; apart = λ a b first second same. no_second b second }
 
   pub stands_new : Stands image new_durable
   stands_new = record {
