@@ -1,16 +1,14 @@
 -- What an image stands for after a change.
 use Rattle.std.proofs.Common.{◌≡◌, ℕ, ◌+◌, ◌-◌, ◌<◌, ◌≤◌, List, [], ◌∷◌, slice_get, refl, sym, subst, arith}
-use Rattle.block_host.specs.Disk.{Image}
 use Rattle.block_host.specs.declared.block.Block.{Block}
 use Rattle.doc_stream.specs.Runs.{RecordsOf}
-use Rattle.forest_model.specs.State.{Durable}
 use Rattle.forest_model.specs.declared.state.Commit.{Commit}
 use Rattle.forest_model.specs.declared.stored.Header.{Header}
 use Rattle.forest_model.specs.declared.stored.Rec.{Rec}
-use Rattle.header_block.specs.Headers.{AreLinked, IsLast, LinksTo, Placed, SameUpTo}
-use Rattle.file_image.specs.Changes.{Add, AddTo, Adds, BeginUpTo, IsAsFarAs, Keep, StaysBy}
+use Rattle.header_block.specs.Headers.{AreLinked, Placed, SameUpTo}
+use Rattle.file_image.specs.Changes.{Add, AddTo, BeginUpTo, Keep, StaysBy}
 use Rattle.file_image.specs.Commits.{AreCommitsOf, IsCommitOf}
-use Rattle.file_image.specs.Stands.{Names, Stands, StandsBy}
+use Rattle.file_image.specs.Stands.{Names}
 
 -- what the crates below say
 abbrev pub ScanStays : Type 0

@@ -171,9 +171,9 @@ order (suc a) zero = inr (inl (omega arith))
 order (suc a) (suc b) = elim (order a b) [
   | inl lt ↦ inl (omega arith)
   | inr other ↦ elim other [
-      | inl gt ↦ inr (inl (omega arith))
-      | inr same ↦ inr (inr (ap suc same))
-    ]
+    | inl gt ↦ inr (inl (omega arith))
+    | inr same ↦ inr (inr (ap suc same))
+  ]
 ]
 
 last_once : (revision : ℕ) (file : List Block) (h g : Placed) → IsLast revision file h.0 → IsLast revision file g.0 → IsHeaderAt revision file h.0 h.1 → IsHeaderAt revision file g.0 g.1 → (h.0 < g.0) ⊎ ((g.0 < h.0) ⊎ (h.0 ≡ g.0)) → h.0 ≡ g.0
