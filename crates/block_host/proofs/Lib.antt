@@ -4,4 +4,4 @@ mod Room
 mod Front
 pub mod Back
 mod InTurn
-mod Unsealed
+mod Alone

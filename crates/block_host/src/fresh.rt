@@ -1,4 +1,4 @@
-ghost use Rattle.std.specs.Prelude.{◌≡◌, ◌≤◌, ◌++◌, ℕ, Bool, IsTrue, List, Some, OnOk, OnErr, IfOk, IfErr, length};
+ghost use Rattle.std.specs.Prelude.{◌≡◌, ◌≤◌, ◌+◌, ◌++◌, ℕ, Bool, IsTrue, List, Some, OnOk, OnErr, IfOk, IfErr, length};
 ghost use Rattle.block_host.specs.declared.block.Block.{Block};
 ghost use Rattle.block_host.specs.Disk.{risen};
 ghost use Rattle.block_host.specs.Calls.{block_at, Written};
@@ -13,6 +13,9 @@ pub trait Fresh: Drop {
     /// The blocks.
     ghost content: { Self → List Block };
 
+    /// The number of blocks, which every fresh file tells. `append` alone changes it.
+    ghost size: { Self → ℕ };
+
     /// The number that the file was made with, which no call changes.
     ghost file: { Self → ℕ };
 
@@ -21,12 +24,14 @@ pub trait Fresh: Drop {
 
     /// The number of blocks.
     fn size(&self) -> u64
-        ensures { IsTrue tells → result ≡ length (content self.now) };
+        ensures { result ≡ size self.now };
 
     /// Puts the blocks at the end, in order. On a failure any part of them is there.
     fn append(&mut self, blocks: &[Block]) -> Result<(), Failed>
         ensures added { IsTrue tells → OnOk result (content self.new ≡ content self.old ++ blocks.now) }
         ensures part { IsTrue tells → Written (file self.old) (length (content self.old)) blocks.now (content self.old) (content self.new) }
+        ensures longer { OnOk result (size self.new ≡ size self.old + length blocks.now) }
+        ensures sizes { (size self.old ≤ size self.new) × (size self.new ≤ size self.old + length blocks.now) }
         ensures file { file self.new ≡ file self.old }
         ensures counts { faults self.old ≤ faults self.new }
         ensures failed { OnErr result (risen (faults self.old) ≤ faults self.new) }
@@ -36,6 +41,7 @@ pub trait Fresh: Drop {
     fn read(&mut self, at: u64, out: &mut Block) -> Result<(), Failed>
         ensures given { IsTrue tells → OnOk result (out.new ≡ block_at (content self.old) at) }
         ensures kept { IsTrue tells → content self.new ≡ content self.old }
+        ensures size { size self.new ≡ size self.old }
         ensures file { file self.new ≡ file self.old }
         ensures counts { faults self.old ≤ faults self.new }
         ensures failed { OnErr result (risen (faults self.old) ≤ faults self.new) }
@@ -49,5 +55,8 @@ pub trait Fresh: Drop {
         ensures settled { IsTrue tells → IfOk result (λ settled. settled.blocks ≡ Some (content self)) }
         ensures same { IfErr result (λ back. file back ≡ file self) }
         ensures kept { IsTrue tells → IfErr result (λ back. content back ≡ content self) }
+        ensures size { IfErr result (λ back. size back ≡ size self) }
         ensures failed { IfErr result (λ back. risen (faults self) ≤ faults back) };
+
+    ghost sized: { IsTrue tells → (fresh : Self) → size fresh ≡ length (content fresh) };
 }

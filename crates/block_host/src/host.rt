@@ -1,4 +1,4 @@
-ghost use Rattle.std.specs.Prelude.{◌≡◌, ◌<◌, ◌≤◌, max, ℕ, Bool, IsTrue, [], OnOk, OnErr, IfOk, unwrap_or, length};
+ghost use Rattle.std.specs.Prelude.{◌≡◌, ◌<◌, ◌≤◌, max, ℕ, Bool, IsTrue, [], OnOk, OnErr, IfOk, IfSome, unwrap_or, length};
 ghost use Rattle.block_host.specs.Disk.{Disk, Lawful, Says, risen};
 ghost use Rattle.block_host.specs.Calls.{Reads, Appends, Puts, Cuts, Becomes, Removes, Syncs, NextFile, block_at};
 
@@ -20,7 +20,7 @@ pub trait Host: Send {
     /// How often the host has failed.
     ghost faults: { Self → ℕ };
 
-    /// The greatest size of a fresh file that was absorbed.
+    /// The greatest size of a fresh file that was absorbed, 0 at first. Every host tells it.
     ghost greatest: { Self → ℕ };
 
     /// The number of blocks, 0 for an absent file.
@@ -84,6 +84,7 @@ pub trait Host: Send {
     fn next_file(&mut self, after: u64) -> Result<Option<u64>, Failed>
         ensures told { IsTrue tells → Reads (disk self.old) (disk self.new) }
         ensures next { IsTrue tells → IfOk result (NextFile after (disk self.old).files) }
+        ensures above { IfOk result (λ next. IfSome next (λ file. after < file)) }
         ensures clock { (disk self.old).moment ≤ (disk self.new).moment }
         ensures counts { faults self.old ≤ faults self.new }
         ensures failed { OnErr result (risen (faults self.old) ≤ faults self.new) }
@@ -129,19 +130,21 @@ pub trait Host: Send {
         ensures untroubled { Self.View.faults view ≡ 0 → faults self.new ≡ faults self.old }
         ensures greatest { greatest self.new ≡ greatest self.old };
 
-    /// Takes a fresh file back. The host's count rises exactly where the file's count is above 0.
+    /// Takes a fresh file back. The host's count rises exactly where the file's count is above 0, and the greatest size
+    /// becomes this file's where that is greater.
     fn absorb_fresh(&mut self, fresh: Self::Fresh)
         ensures told { IsTrue tells → Reads (disk self.old) (disk self.new) }
         ensures clock { (disk self.old).moment ≤ (disk self.new).moment }
         ensures counts { faults self.old ≤ faults self.new }
         ensures failed { 1 ≤ Self.Fresh.faults fresh → risen (faults self.old) ≤ faults self.new }
         ensures untroubled { Self.Fresh.faults fresh ≡ 0 → faults self.new ≡ faults self.old }
-        ensures greatest { IsTrue tells → greatest self.new ≡ max (greatest self.old) (length (Self.Fresh.content fresh)) };
+        ensures greatest { greatest self.new ≡ max (greatest self.old) (Self.Fresh.size fresh) };
 
     /// An empty file of this number, outside the host's images, with a count of 0.
     fn fresh(&mut self, file: u64) -> Result<Self::Fresh, Failed>
         ensures told { IsTrue tells → Reads (disk self.old) (disk self.new) }
         ensures empty { IsTrue tells → IfOk result (λ fresh. Self.Fresh.content fresh ≡ []) }
+        ensures no_blocks { IfOk result (λ fresh. Self.Fresh.size fresh ≡ 0) }
         ensures number { IfOk result (λ fresh. Self.Fresh.file fresh ≡ file) }
         ensures made { IfOk result (λ fresh. Self.Fresh.faults fresh ≡ 0) }
         ensures clock { (disk self.old).moment ≤ (disk self.new).moment }

@@ -1,4 +1,4 @@
-ghost use Rattle.std.specs.Prelude.{◌≡◌, ◌+◌, ◌-◌, ◌^◌, ◌<◌, ◌≤◌, min, ℕ, Bool, true, false, IsTrue, List, [], ◌++◌, length, take, drop, IfOk, OnErr};
+ghost use Rattle.std.specs.Prelude.{◌≡◌, ◌+◌, ◌-◌, ◌^◌, ◌<◌, ◌≤◌, ◌==◌, if◌then◌else◌, is_err, min, ℕ, Bool, true, false, IsTrue, List, [], ◌++◌, length, take, drop, IfOk, OnOk, OnErr};
 ghost use Rattle.std.specs.Io.KnownBytes.{ReadConsumes};
 ghost use Rattle.block_host.specs.Disk.{risen};
 ghost use Rattle.block_host.specs.Reader.{left_to_read};
@@ -25,7 +25,8 @@ pub trait Source {
         ensures end { IsTrue tells → 0 < length room.old → IfOk result (λ n. n ≡ 0 → rest self.old ≡ []) }
         ensures kept { IsTrue tells → OnErr result (rest self.new ≡ rest self.old) }
         ensures counts { faults self.old ≤ faults self.new }
-        ensures failed { OnErr result (risen (faults self.old) ≤ faults self.new) };
+        ensures failed { OnErr result (risen (faults self.old) ≤ faults self.new) }
+        ensures untroubled { OnOk result (faults self.new ≡ faults self.old) };
 }
 
 /// Any reader of std as a source. It tells nothing of its bytes.
@@ -65,6 +66,8 @@ impl<R: Read + Drop> Source for StdSource<R> {
         ensures count { IfOk result (λ n. n ≤ length room.old) }
         ensures counts { ⟦<StdSource<R> as Source>⟧.faults self.old ≤ ⟦<StdSource<R> as Source>⟧.faults self.new }
         ensures failed { OnErr result (risen (⟦<StdSource<R> as Source>⟧.faults self.old) ≤ ⟦<StdSource<R> as Source>⟧.faults self.new) }
+        ensures untroubled { OnOk result (⟦<StdSource<R> as Source>⟧.faults self.new ≡ ⟦<StdSource<R> as Source>⟧.faults self.old) }
+        ensures counted { OnErr result (⟦<StdSource<R> as Source>⟧.faults self.new ≡ risen (⟦<StdSource<R> as Source>⟧.faults self.old)) }
     {
         match self.reader.read(room) {
             Ok(n) => Ok(n),
@@ -143,7 +146,22 @@ impl Source for MemorySource {
 
     ghost faults = { λ source. source.faults };
 
-    fn read(&mut self, room: &mut [u8]) -> Result<usize, Failed> {
+    // It gives as many bytes as it has left, as there is room for and as a step has, whichever is least.
+    fn read(&mut self, room: &mut [u8]) -> Result<usize, Failed>
+        ensures planned { is_err result ≡ (self.old.fails_at == 1) }
+        ensures least { IfOk result (λ n. n ≡ min (min (length self.old.rest) (length room.old)) self.old.step) }
+        ensures put { IfOk result (λ n. room.new ≡ take n self.old.rest ++ drop n room.old) }
+        ensures taken { IfOk result (λ n. self.new ≡ record self.old { rest = drop n self.old.rest; fails_at = self.old.fails_at - 1 }) }
+        ensures fault { OnErr result (self.new ≡ record self.old { fails_at = 0; faults = risen self.old.faults }) }
+        ensures nothing { OnErr result (room.new ≡ room.old) }
+        ensures count { IfOk result (λ n. n ≤ length room.old) }
+        ensures given { IsTrue true → IfOk result (λ n. self.old.rest ≡ take n room.new ++ self.new.rest) }
+        ensures end { IsTrue true → 0 < length room.old → IfOk result (λ n. n ≡ 0 → self.old.rest ≡ []) }
+        ensures kept { IsTrue true → OnErr result (self.new.rest ≡ self.old.rest) }
+        ensures counts { self.old.faults ≤ self.new.faults }
+        ensures failed { OnErr result (risen self.old.faults ≤ self.new.faults) }
+        ensures untroubled { OnOk result (self.new.faults ≡ self.old.faults) }
+    {
         if self.fails_at == 1 {
             self.fails_at = 0;
             self.faults = self.faults.saturating_add(1);
@@ -161,6 +179,7 @@ impl Source for MemorySource {
 #[cfg(test)]
 mod tests {
     use super::*;
+    use std::io;
     use std::test::Fail;
 
     #[test]
@@ -191,6 +210,41 @@ mod tests {
         assert_eq!(rt; room, *b"zy");
         assert_eq!(rt; source.read(&mut room), Ok(0));
         assert_eq!(rt; source.faults(), 0);
+        Ok(())
+    }
+
+    // A reader whose first read fails, and whose next one would give a byte.
+    #[derive(Drop)]
+    struct Troubled {
+        failed: bool,
+    }
+
+    impl Read for Troubled {
+        fn read(&mut self, room: &mut [u8]) -> io::Result<usize> {
+            if !self.failed {
+                self.failed = true;
+                return Err(io::Error::from(io::ErrorKind::Interrupted));
+            }
+            match room.first_mut() {
+                Some(byte) => {
+                    *byte = b'a';
+                    Ok(1)
+                }
+                None => Ok(0),
+            }
+        }
+    }
+
+    #[test]
+    fn an_error_of_the_reader_is_told_at_once(rt: HostRuntime) -> Result<(), Fail> {
+        let mut source = StdSource::new(Troubled { failed: false });
+        let mut room = [0; 2];
+        assert_eq!(rt; source.read(&mut room), Err(Failed));
+        assert_eq!(rt; source.faults(), 1);
+        assert_eq!(rt; room, *b"\0\0");
+        assert_eq!(rt; source.read(&mut room), Ok(1));
+        assert_eq!(rt; source.faults(), 1);
+        assert_eq!(rt; room, *b"a\0");
         Ok(())
     }
 }

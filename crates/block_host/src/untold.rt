@@ -8,6 +8,7 @@ use crate::{Block, Failed, Fresh, Host, Settled, View};
 struct Quiet {
     failing: bool,
     faults: u64,
+    greatest: u64,
 }
 
 impl Quiet {
@@ -15,6 +16,7 @@ impl Quiet {
         ensures ok { OnOk result (self.new.faults ≡ self.old.faults) }
         ensures err { OnErr result (risen self.old.faults ≤ self.new.faults) }
         ensures counts { self.old.faults ≤ self.new.faults }
+        ensures greatest { self.new.greatest ≡ self.old.greatest }
         ensures value { IfOk result (λ x. x ≡ value) }
     {
         if self.failing {
@@ -33,6 +35,7 @@ struct QuietView {
 #[derive(Drop)]
 struct QuietFresh {
     file: u64,
+    blocks: u64,
     faults: u64,
 }
 
@@ -58,17 +61,29 @@ impl Fresh for QuietFresh {
 
     ghost content = { λ _. [] };
 
+    ghost size = { λ fresh. fresh.blocks };
+
     ghost file = { λ fresh. fresh.file };
 
     ghost faults = { λ fresh. fresh.faults };
 
+    ghost sized = { λ told. not_told told };
+
     fn size(&self) -> u64 {
-        0
+        self.blocks
     }
 
-    fn append(&mut self, _blocks: &[Block]) -> Result<(), Failed> {
-        self.faults = self.faults.saturating_add(1);
-        Err(Failed)
+    fn append(&mut self, blocks: &[Block]) -> Result<(), Failed> {
+        match self.blocks.checked_add(blocks.len() as u64) {
+            Some(blocks) => {
+                self.blocks = blocks;
+                Ok(())
+            }
+            None => {
+                self.faults = self.faults.saturating_add(1);
+                Err(Failed)
+            }
+        }
     }
 
     fn read(&mut self, _at: u64, _out: &mut Block) -> Result<(), Failed> {
@@ -91,7 +106,7 @@ impl Host for Quiet {
 
     ghost faults = { λ host. host.faults };
 
-    ghost greatest = { λ _. 0 };
+    ghost greatest = { λ host. host.greatest };
 
     ghost lawful = { λ told. not_told told };
 
@@ -123,8 +138,8 @@ impl Host for Quiet {
         self.answer(())
     }
 
-    fn next_file(&mut self, _after: u64) -> Result<Option<u64>, Failed> {
-        self.answer(None)
+    fn next_file(&mut self, after: u64) -> Result<Option<u64>, Failed> {
+        self.answer(after.checked_add(1))
     }
 
     fn remove(&mut self, _file: u64) -> bool {
@@ -149,10 +164,15 @@ impl Host for Quiet {
         if fresh.faults > 0 {
             self.faults = self.faults.saturating_add(1);
         }
+        self.greatest = self.greatest.max(fresh.blocks);
     }
 
     fn fresh(&mut self, file: u64) -> Result<QuietFresh, Failed> {
-        self.answer(QuietFresh { file, faults: 0 })
+        self.answer(QuietFresh {
+            file,
+            blocks: 0,
+            faults: 0,
+        })
     }
 
     fn adopt(&mut self, _settled: Settled) -> Result<(), Failed> {
@@ -178,12 +198,29 @@ mod tests {
         let mut host = Quiet {
             failing: true,
             faults: u64::MAX - 1,
+            greatest: 0,
         };
         assert_eq!(rt; host.say(b"x"), Err(Failed));
         assert_eq!(rt; Host::faults(&host), u64::MAX);
         assert_eq!(rt; host.sync(3), Err(Failed));
         assert_eq!(rt; Host::faults(&host), u64::MAX);
         assert!(rt; !host.remove(3));
+        Ok(())
+    }
+
+    #[test]
+    fn keeps_the_greatest_size(rt: HostRuntime) -> Result<(), Fail> {
+        let mut host = Quiet {
+            failing: false,
+            faults: 0,
+            greatest: 1,
+        };
+        let mut fresh = host.fresh(7)?;
+        fresh.append(&[Block::zeros(), Block::zeros()])?;
+        assert_eq!(rt; fresh.size(), 2);
+        host.absorb_fresh(fresh);
+        assert_eq!(rt; host.greatest, 2);
+        assert_eq!(rt; host.next_file(u64::MAX), Ok(None));
         Ok(())
     }
 }

@@ -21,6 +21,7 @@ pub(crate) struct Listener {
     /// The block of file 1 that views give as zeros; 0 where none is.
     pub(crate) spoiled: u64,
     faults: u64,
+    greatest: u64,
 }
 
 impl Listener {
@@ -34,6 +35,7 @@ impl Listener {
             fails_at: 0,
             spoiled: 0,
             faults: 0,
+            greatest: 0,
         })
     }
 }
@@ -47,6 +49,8 @@ pub(crate) struct Shown {
 #[derive(Drop)]
 pub(crate) struct NoFresh {
     file: u64,
+    blocks: u64,
+    faults: u64,
 }
 
 impl View for Shown {
@@ -74,16 +78,29 @@ impl Fresh for NoFresh {
 
     ghost content = { λ _. [] };
 
+    ghost size = { λ fresh. fresh.blocks };
+
     ghost file = { λ fresh. fresh.file };
 
-    ghost faults = { λ _. 0 };
+    ghost faults = { λ fresh. fresh.faults };
+
+    ghost sized = { λ told. not_told told };
 
     fn size(&self) -> u64 {
-        0
+        self.blocks
     }
 
-    fn append(&mut self, _blocks: &[Block]) -> Result<(), Failed> {
-        Ok(())
+    fn append(&mut self, blocks: &[Block]) -> Result<(), Failed> {
+        match self.blocks.checked_add(blocks.len() as u64) {
+            Some(blocks) => {
+                self.blocks = blocks;
+                Ok(())
+            }
+            None => {
+                self.faults = self.faults.saturating_add(1);
+                Err(Failed)
+            }
+        }
     }
 
     fn read(&mut self, _at: u64, _out: &mut Block) -> Result<(), Failed> {
@@ -106,7 +123,7 @@ impl Host for Listener {
 
     ghost faults = { λ host. host.faults };
 
-    ghost greatest = { λ _. 0 };
+    ghost greatest = { λ host. host.greatest };
 
     ghost lawful = { λ told. not_told told };
 
@@ -183,10 +200,19 @@ impl Host for Listener {
 
     fn absorb_view(&mut self, _view: Shown) {}
 
-    fn absorb_fresh(&mut self, _fresh: NoFresh) {}
+    fn absorb_fresh(&mut self, fresh: NoFresh) {
+        if fresh.faults > 0 {
+            self.faults = self.faults.saturating_add(1);
+        }
+        self.greatest = self.greatest.max(fresh.blocks);
+    }
 
     fn fresh(&mut self, file: u64) -> Result<NoFresh, Failed> {
-        Ok(NoFresh { file })
+        Ok(NoFresh {
+            file,
+            blocks: 0,
+            faults: 0,
+        })
     }
 
     fn adopt(&mut self, _settled: Settled) -> Result<(), Failed> {

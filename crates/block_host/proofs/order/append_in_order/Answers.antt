@@ -1,6 +1,8 @@
-use Rattle.std.proofs.Common.{refl, inl, ap, ◌∙◌}
+use Rattle.std.proofs.Common.{refl, inl, ap, ◌∙◌, length, [], ◌∷◌}
 use Rattle.block_host.specs.Disk.{Image}
 use Rattle.block_host.proofs.InTurn.{Stands, records_left, after_records, header_left, after_header, after_sync}
+use Rattle.block_host.specs.Calls.{Written}
+use Rattle.block_host.proofs.Alone.{alone, alone_by_change, alone_by_sync}
 use Rattle.block_host.proofs.order.append_in_order.Goals as goal
 
 pub returns-in_err-append-clause-any_moment : goal.returns-in_err-append-clause-any_moment
@@ -57,3 +59,45 @@ returns-clause-any_moment g c told =
     let headed = after_header file old c.args.records.now c.args.header.now d0 d2 d3 synced settled is last c.append-2.ensures.clock in
     after_sync file c.sync-2.result d0 d3 (g.H.Host.disk c.sync-2.new.self) P headed (c.sync-2.ensures.told told) c.sync-2.ensures.clock
     (λ image said left. header_left file old c.args.records.now c.args.header.now d0 d2 d3 synced settled is last c.append-2.ensures.clock image left)
+
+pub returns-in_err-append-clause-others : goal.returns-in_err-append-clause-others
+returns-in_err-append-clause-others g c told =
+    let file = c.args.file in
+    let d0 = g.H.Host.disk c.args.host.now in
+    let d1 = g.H.Host.disk c.append.new.self in
+    let one = alone_by_change file d0 d0 d1 (alone file d0 ((g.met.H.Host g.world.𝓛 g.world.𝓜 g.world.𝓡 ((λ s x. x), (λ x. x), (λ x. x), λ x. x)).lawful told c.args.host.now)) c.append.ensures.clock (Written file (length (d0.files file)) c.args.records.now) (c.append.ensures.told told).part in
+    one
+
+pub returns-in_err-sync-clause-others : goal.returns-in_err-sync-clause-others
+returns-in_err-sync-clause-others g c told =
+    let file = c.args.file in
+    let d0 = g.H.Host.disk c.args.host.now in
+    let d1 = g.H.Host.disk c.append.new.self in
+    let one = alone_by_change file d0 d0 d1 (alone file d0 ((g.met.H.Host g.world.𝓛 g.world.𝓜 g.world.𝓡 ((λ s x. x), (λ x. x), (λ x. x), λ x. x)).lawful told c.args.host.now)) c.append.ensures.clock (Written file (length (d0.files file)) c.args.records.now) (c.append.ensures.told told).part in
+    let d2 = g.H.Host.disk c.sync.new.self in
+    let two = alone_by_sync file d0 d1 d2 one c.sync.ensures.clock c.sync.result (c.sync.ensures.told told) in
+    two
+
+pub returns-in_err-append-2-clause-others : goal.returns-in_err-append-2-clause-others
+returns-in_err-append-2-clause-others g c told =
+    let file = c.args.file in
+    let d0 = g.H.Host.disk c.args.host.now in
+    let d1 = g.H.Host.disk c.append.new.self in
+    let one = alone_by_change file d0 d0 d1 (alone file d0 ((g.met.H.Host g.world.𝓛 g.world.𝓜 g.world.𝓡 ((λ s x. x), (λ x. x), (λ x. x), λ x. x)).lawful told c.args.host.now)) c.append.ensures.clock (Written file (length (d0.files file)) c.args.records.now) (c.append.ensures.told told).part in
+    let d2 = g.H.Host.disk c.sync.new.self in
+    let two = alone_by_sync file d0 d1 d2 one c.sync.ensures.clock c.sync.result (c.sync.ensures.told told) in
+    let d3 = g.H.Host.disk c.append-2.new.self in
+    let three = alone_by_change file d0 d2 d3 two c.append-2.ensures.clock (Written file (length (d2.files file)) (c.args.header.now ∷ [])) (c.append-2.ensures.told told).part in
+    three
+
+pub returns-clause-others : goal.returns-clause-others
+returns-clause-others g c told =
+    let file = c.args.file in
+    let d0 = g.H.Host.disk c.args.host.now in
+    let d1 = g.H.Host.disk c.append.new.self in
+    let one = alone_by_change file d0 d0 d1 (alone file d0 ((g.met.H.Host g.world.𝓛 g.world.𝓜 g.world.𝓡 ((λ s x. x), (λ x. x), (λ x. x), λ x. x)).lawful told c.args.host.now)) c.append.ensures.clock (Written file (length (d0.files file)) c.args.records.now) (c.append.ensures.told told).part in
+    let d2 = g.H.Host.disk c.sync.new.self in
+    let two = alone_by_sync file d0 d1 d2 one c.sync.ensures.clock c.sync.result (c.sync.ensures.told told) in
+    let d3 = g.H.Host.disk c.append-2.new.self in
+    let three = alone_by_change file d0 d2 d3 two c.append-2.ensures.clock (Written file (length (d2.files file)) (c.args.header.now ∷ [])) (c.append-2.ensures.told told).part in
+    alone_by_sync file d0 d3 (g.H.Host.disk c.sync-2.new.self) three c.sync-2.ensures.clock c.sync-2.result (c.sync-2.ensures.told told)
