@@ -30,8 +30,8 @@ use Rattle.file_core.specs.Stands.{Stands, AreDocuments, HasDocument, IsKept, Sa
 use Rattle.file_documents.specs.Setting.{put_of}
 use Rattle.file_parts.specs.Moment.{Moment}
 use Rattle.file_core.specs.Updates.{StandsAt, IsFile, bytes_of}
-use Rattle.file_commit.specs.Committing.{listed, IsOpenBlock, CommitsFile}
-use Rattle.file_commit.proofs.Grown.{length-bytes_of, bytes-append, open_records, open_count, Grown, grown_is, adds}
+use Rattle.file_commit.specs.Committing.{listed, IsOpenBlock, CommitsFile, header_after}
+use Rattle.file_commit.proofs.Grown.{length-bytes_of, bytes-append, open_records, open_whole, open_count, Grown, grown_is, adds}
 
 -- ---- what the crate of records promises
 
@@ -172,13 +172,13 @@ module _ (rules : RulesStay) (means : NothingNewMeans) (pads : PadsKeep) (blocks
 
   pub commit_adds : AddsCommit s f file_after
   commit_adds =
-      adds s f (bytes_of records) commits.header.bytes
-      (length-bytes_of records ∙ count ∙ ap (λ n. if n == 0 then 0 else 1) stands.open_block)
-      (open_records old.held.revision old.held.tail commits.block commits.open_block)
-      commits.tells.kind
-      (commits.tells.number ∙ stands.next_commit)
-      (commits.tells.link ∙ ap link_to (sym was.header))
-      (commits.tells.from ∙ sym was.from)
+      adds s f (bytes_of records) (header_after old.held) commits.header.bytes
+      (record {
+        count = length-bytes_of records ∙ count ∙ ap (λ n. if n == 0 then 0 else 1) stands.open_block;
+        whole = open_whole old.held.revision old.held.tail commits.block commits.open_block;
+        kind = open_records old.held.revision s.loose old.held.tail commits.block stands.open_block commits.open_block;
+      })
+      commits.tells stands.next_commit (ap link_to (sym was.header)) (sym was.from)
 
   pub commit_grows : FileAfter s f (Some (calls.Commit at)) (committed s) file_after
   commit_grows = subst (λ (b : Bool). MatchBool b (Grows s f (calls.Commit at) file_after) (file_after ≡ f)) (sym (eq-eqb (s.place + 1) (s.place + 1) refl)) commit_adds

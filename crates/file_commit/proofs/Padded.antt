@@ -1,6 +1,7 @@
 -- The open block that is padded out, and what is in memory once the header stands behind it.
-use Rattle.std.proofs.Common.{◌≡◌, ◌≢◌, ℕ, ◌+◌, List, [], length, Option, Some, None, ap, subst, ◌∙◌, arith}
-use Rattle.std.specs.Prelude.{MatchOption}
+use Rattle.std.proofs.Common.{◌≡◌, ◌≢◌, ℕ, ◌+◌, ◌^◌, ◌≤◌, false, List, [], length, Option, Some, None, ap, subst, ◌∙◌, arith}
+use Rattle.std.specs.Prelude.{MatchOption, ◌||◌, nat_lt}
+use Rattle.std.proofs.lemmas.Bool.Decides.{nat_tests}
 use Rattle.block_host.specs.Sealed.{IsSealed}
 use Rattle.block_host.specs.declared.block.Block.{Block}
 use Rattle.doc_stream.specs.OpenBlock.{OpenBlock}
@@ -20,6 +21,21 @@ opened revision before after (Some b) pads = (pads.0, pads.1)
 pub padded_number : (revision : ℕ) (before after : OpenBlock) (block : Option Block) → Pads revision before after block → after.number ≡ before.number + length (listed block)
 padded_number revision before after None pads = omega (arith, ap (λ (t : OpenBlock). t.number) pads.1)
 padded_number revision before after (Some b) pads = omega (arith, ap (λ (t : OpenBlock). t.number) pads.2)
+
+few : (block : Option Block) → length (listed block) ≤ 1
+few None = omega arith
+few (Some b) = omega arith
+
+not_far : (a b : ℕ) → (nat_lt (2 ^ 40) a || nat_lt (2 ^ 40) b) ≡ false → a ≤ 2 ^ 40
+not_far a b near = grind (arith, nat_tests)
+
+-- the place behind the open block is that of a file
+pub near_end : (revision : ℕ) (before after : OpenBlock) (block : Option Block) (header at : ℕ) → (nat_lt (2 ^ 40) before.number || nat_lt (2 ^ 40) header) ≡ false → Pads revision before after block → at ≡ after.number
+    → at ≤ 2 ^ 40 + 1
+near_end revision before after block header at near pads is =
+    let low = not_far before.number header near in
+    let one = few block in
+    omega (arith, padded_number revision before after block pads, is)
 
 pub entered : (p q : Held) (h : Header) (at number : ℕ)
     → q ≡ record p { header = h; header_at = at; blocks = at + 1; tail = record { number = at + 1; bytes = [] }; loose = 0; place = p.place + 1; next_commit = p.next_commit + 1 }

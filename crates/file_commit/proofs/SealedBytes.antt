@@ -1,12 +1,12 @@
 -- What the sequential store reads of a sealed block: its kind, and the first fields of a header.
-use Rattle.std.proofs.Common.{◌≡◌, ℕ, ◌+◌, ◌-◌, ◌<◌, ◌≤◌, ◌^◌, suc, List, [], ◌∷◌, ◌++◌, length, take, drop, refl, sym, ap, ◌∙◌, arith, append_assoc, length-append}
-use Rattle.std.specs.Prelude.{slice_index, replicate, ◌==◌, Option, Some, None, IfSome}
+use Rattle.std.proofs.Common.{◌≡◌, ℕ, ◌+◌, ◌-◌, ◌<◌, ◌≤◌, ◌^◌, suc, List, [], ◌∷◌, ◌++◌, length, take, drop, refl, sym, ap, ◌∙◌, arith, append_assoc}
+use Rattle.std.specs.Prelude.{replicate, ◌==◌, Option, Some, None, IfSome}
 use Rattle.std.specs.List.{flat_map}
 use Rattle.std.specs.Option.{option_map_or}
 use Rattle.std.specs.Int.{w16, w64, to_be_bytes, from_be_bytes}
 use Rattle.std.proofs.lemmas.Nat.{from_be_bytes-to_be_bytes_8}
-use Rattle.std.proofs.lemmas.List.{length-replicate}
-use Rattle.std.proofs.Math.Seq.{drop-append-add, take-append-add, get_or-append_seam}
+use Rattle.std.proofs.Math.Seq.{drop-append-add, take-append-add}
+use Rattle.block_host.proofs.Back.{kind_back}
 use Rattle.block_host.specs.Sealed.{IsSealed, sealed_front, with_checksum, padded, zeros}
 use Rattle.block_host.specs.declared.block.Block.{Block}
 use Rattle.node_page.specs.Pages.{IsPage}
@@ -30,10 +30,6 @@ number_at front rest at n is small =
     ∙ ap (λ k. from_be_bytes w64 (take k (long n ++ rest))) d
     ∙ ap (from_be_bytes w64) (take-append-add (long n) rest 0 ∙ nothing_more (long n) rest)
     ∙ from_be_bytes-to_be_bytes_8 n small
-
-length-padded : (n : ℕ) (bytes : List ℕ) → length bytes ≤ n → length (padded n bytes) ≡ n
-unfolding padded zeros
-length-padded n bytes le = omega (arith, length-append bytes (replicate (n - length bytes) 0), length-replicate {A = ℕ} (n - length bytes) 0)
 
 -- padded bytes begin with the bytes
 begins : (n : ℕ) (bytes behind : List ℕ) → (rest : List ℕ) × (padded n bytes ++ behind ≡ bytes ++ rest)
@@ -67,15 +63,6 @@ front_of revision at kind payload block s =
     let used = to_be_bytes w16 (length payload) ++ p.0 in
     let b = begins 4064 payload ((kind ∷ 1 ∷ []) ++ used) in
     (b.0, p.1 ∙ append_assoc (padded 4064 payload) (kind ∷ 1 ∷ []) used ∙ b.1)
-
--- its kind stands behind the payload
-pub kind_at : (revision at kind : ℕ) (payload : List ℕ) (block : Block) → IsSealed revision at kind payload block → slice_index block.bytes 4064 ≡ kind
-kind_at revision at kind payload block s =
-    let p = parts_of revision at kind payload block s in
-    let used = to_be_bytes w16 (length payload) ++ p.0 in
-    ap (λ xs. slice_index xs 4064) (p.1 ∙ append_assoc (padded 4064 payload) (kind ∷ 1 ∷ []) used)
-    ∙ ap (λ k. slice_index (padded 4064 payload ++ kind ∷ 1 ∷ used) k) (sym (length-padded 4064 payload s.fits))
-    ∙ get_or-append_seam (padded 4064 payload) kind (1 ∷ used) 0
 
 -- ---- a header's commit number, its link and the block from which its records count
 
@@ -130,7 +117,8 @@ payload_is payload page is =
 pub tells : (revision at : ℕ) (h : Header) (block : Block) → IsSealed revision at 4 (header_bytes h) block → h.commit < 2 ^ 64 → h.wal_from < 2 ^ 64 → option_map_or suc h.previous 0 < 2 ^ 64
     → TellsHeader h block.bytes
 tells revision at h block is commit from previous = record {
-  kind = ap (λ k. k == 4) (kind_at revision at 4 (header_bytes h) block is);
+  whole = is.whole;
+  kind = ap (λ k. k == 4) (kind_back revision at 4 (header_bytes h) block is);
   number = number_of revision at h block is commit;
   link = link_of revision at h block is previous;
   from = from_of revision at h block is from;

@@ -6,7 +6,7 @@ use Rattle.block_host.specs.Disk.{risen}
 use Rattle.block_host.specs.Sealed.{IsSealed}
 use Rattle.block_host.specs.declared.block.Block.{Block}
 use Rattle.doc_stream.specs.OpenBlock.{OpenBlock}
-use Rattle.forest_model.specs.Blocks.{is_header, commit_number, previous_link, wal_from}
+use Rattle.forest_model.specs.Blocks.{is_block, is_header, commit_number, previous_link, wal_from}
 use Rattle.forest_model.specs.Limits.{any_worn}
 use Rattle.forest_model.specs.Run.{link_to}
 use Rattle.forest_model.specs.Stored.{StoreRow}
@@ -46,8 +46,9 @@ header_after p = record {
   stores = p.names.rows;
 }
 
--- What is read in the block of a header.
+-- What is read in the block of a header, which is whole.
 pub record TellsHeader (h : Header) (bytes : List ℕ) : Type 0 where
+  pub whole : IsTrue (is_block bytes)
   pub kind : IsTrue (is_header bytes)
   pub number : commit_number bytes ≡ h.commit
   pub link : previous_link bytes ≡ link_to h.previous

@@ -22,7 +22,7 @@ use Rattle.file_parts.specs.Moment.{Moment}
 use Rattle.file_parts.specs.Records.{PutsRecord}
 use Rattle.file_core.specs.Updates.{StandsAt, IsFile, bytes_of}
 use Rattle.file_parts.proofs.Puts.{length-record}
-use Rattle.file_core.proofs.SetBlocks.{Lengths, put_lengths, put_records, behind, length-bytes_of, bytes-append}
+use Rattle.file_core.proofs.SetBlocks.{Lengths, put_lengths, put_records, put_whole, put_full, behind, length-bytes_of, bytes-append}
 use Rattle.file_core.proofs.SetEntries.{has_more}
 
 -- ---- what the crates below promise of records
@@ -92,7 +92,8 @@ module _ {told : Bool} {bytes : List ℕ} {n : ℕ} {old new : Moment} {s : Stat
     records = bytes_of puts.out;
     all = refl;
     count = length-bytes_of puts.out ∙ lengths.count ∙ ap (λ m. (m + n) / 4064) puts.stands.open_block;
-    kind = records_are;
+    whole = put_whole old.held.revision bytes old.held.tail new.held.tail puts.out puts.put;
+    full = put_full old.held.revision bytes old.held.tail new.held.tail puts.out puts.put;
   }
 
   -- a call that is an update, and grows by the blocks of the records

@@ -1,13 +1,12 @@
 -- What a record that is put makes of the open block and of the file.
-use Rattle.std.proofs.Common.{◌≡◌, ℕ, ◌+◌, ◌-◌, ◌*◌, ◌/◌, ◌%◌, ◌≤◌, suc, Bool, true, false, List, [], ◌∷◌, ◌++◌, length, refl, sym, ap, subst, ◌∙◌, arith, append_assoc, length-append}
-use Rattle.std.specs.Prelude.{IsTrue, ◌&&◌, ◌==◌, slice_index, replicate}
+use Rattle.std.proofs.Common.{◌≡◌, ℕ, ◌+◌, ◌*◌, ◌/◌, ◌%◌, suc, Bool, true, false, List, [], ◌∷◌, ◌++◌, length, refl, sym, ap, subst, ◌∙◌, arith, length-append}
+use Rattle.std.specs.Prelude.{IsTrue, ◌&&◌, ◌==◌}
 use Rattle.std.specs.List.{list_all}
-use Rattle.std.proofs.lemmas.List.{length-replicate}
-use Rattle.std.proofs.Math.Seq.{get_or-append_seam}
 use Rattle.block_host.specs.declared.block.Block.{Block}
-use Rattle.block_host.specs.Sealed.{IsSealed, sealed_front, with_checksum, padded, zeros}
+use Rattle.block_host.specs.Sealed.{IsSealed}
+use Rattle.block_host.proofs.Back.{kind_back, in_use_back}
 use Rattle.doc_stream.specs.OpenBlock.{OpenBlock, AreFull, PutsBytes}
-use Rattle.forest_model.specs.Blocks.{is_records}
+use Rattle.forest_model.specs.Blocks.{is_block, is_records, is_full, in_use}
 use Rattle.file_core.specs.Updates.{bytes_of}
 
 full-length : (revision at : ℕ) (blocks : List Block) (whole : List ℕ) → AreFull revision at blocks whole → length whole ≡ length blocks * 4064
@@ -35,30 +34,28 @@ join : (a b : Bool) → IsTrue a → IsTrue b → IsTrue (a && b)
 join true b t u = u
 join false b t u = t
 
-regroup : (a : List ℕ) (k : ℕ) (u z r t c : List ℕ) → (((((a ++ (k ∷ 1 ∷ [])) ++ u) ++ z) ++ r) ++ t) ++ c ≡ a ++ (k ∷ 1 ∷ (u ++ (z ++ (r ++ (t ++ c)))))
-regroup a k u z r t c = simp append_assoc
+-- what each full record block has
+abbrev HasFull : (List ℕ → Bool) → ℕ → Type 0
+HasFull p revision = (at : ℕ) (payload : List ℕ) (block : Block) → IsSealed revision at 1 payload block → length payload ≡ 4064 → IsTrue (p block.bytes)
 
-length-padded : (n : ℕ) (bytes : List ℕ) → length bytes ≤ n → length (padded n bytes) ≡ n
-unfolding padded zeros
-length-padded n bytes le = omega (arith, length-append bytes (replicate (n - length bytes) 0), length-replicate {A = ℕ} (n - length bytes) 0)
+all_full : (p : List ℕ → Bool) (revision : ℕ) → HasFull p revision → (at : ℕ) (blocks : List Block) (whole : List ℕ) → AreFull revision at blocks whole → IsTrue (list_all p (bytes_of blocks))
+all_full p revision has at [] whole full = refl
+all_full p revision has at (b ∷ blocks) whole full = join (p b.bytes) (list_all p (bytes_of blocks)) (has at full.0 b full.4 full.3) (all_full p revision has (at + 1) blocks full.1 full.5)
 
-seam : (front : List ℕ) (k : ℕ) (rest bytes : List ℕ) → bytes ≡ front ++ k ∷ rest → length front ≡ 4064 → slice_index bytes 4064 ≡ k
-seam front k rest bytes is long =
-    ap (λ xs. slice_index xs 4064) is ∙ ap (λ n. slice_index (front ++ k ∷ rest) n) (sym long) ∙ get_or-append_seam front k rest 0
+put_all : (p : List ℕ → Bool) (revision : ℕ) → HasFull p revision → (bytes : List ℕ) (before after : OpenBlock) (out : List Block) → PutsBytes revision bytes before after [] out → IsTrue (list_all p (bytes_of out))
+put_all p revision has bytes before after out puts =
+    subst (λ (bs : List Block). IsTrue (list_all p (bytes_of bs))) (sym puts.out) (all_full p revision has before.number puts.more puts.whole puts.full)
 
--- a sealed block's kind stands behind its payload
-kind_at : (revision at kind : ℕ) (payload : List ℕ) (block : Block) → IsSealed revision at kind payload block → slice_index block.bytes 4064 ≡ kind
-unfolding sealed_front with_checksum padded
-kind_at revision at kind payload block s =
-    seam (padded 4064 payload) kind _ block.bytes (s.bytes ∙ regroup (padded 4064 payload) kind _ _ _ _ _) (length-padded 4064 payload s.fits)
-
-are_records : (revision at : ℕ) (blocks : List Block) (whole : List ℕ) → AreFull revision at blocks whole → IsTrue (list_all is_records (bytes_of blocks))
-are_records revision at [] whole full = refl
-are_records revision at (b ∷ blocks) whole full = join (is_records b.bytes) (list_all is_records (bytes_of blocks)) (ap (λ k. k == 1) (kind_at revision at 1 full.0 b full.4)) (are_records revision (at + 1) blocks full.1 full.5)
-
+-- the blocks that are put are record blocks, whole and full
 pub put_records : (revision : ℕ) (bytes : List ℕ) (before after : OpenBlock) (out : List Block) → PutsBytes revision bytes before after [] out → IsTrue (list_all is_records (bytes_of out))
-put_records revision bytes before after out puts =
-    subst (λ (bs : List Block). IsTrue (list_all is_records (bytes_of bs))) (sym puts.out) (are_records revision before.number puts.more puts.whole puts.full)
+put_records revision = put_all is_records revision (λ at payload block sealed _. ap (λ k. k == 1) (kind_back revision at 1 payload block sealed))
+
+pub put_whole : (revision : ℕ) (bytes : List ℕ) (before after : OpenBlock) (out : List Block) → PutsBytes revision bytes before after [] out → IsTrue (list_all is_block (bytes_of out))
+put_whole revision = put_all is_block revision (λ at payload block sealed _. sealed.whole)
+
+pub put_full : (revision : ℕ) (bytes : List ℕ) (before after : OpenBlock) (out : List Block) → PutsBytes revision bytes before after [] out → IsTrue (list_all is_full (bytes_of out))
+put_full revision = put_all is_full revision (λ at payload block sealed is.
+    join (is_records block.bytes) (in_use block.bytes == 4064) (ap (λ k. k == 1) (kind_back revision at 1 payload block sealed)) (ap (λ n. n == 4064) (in_use_back revision at 1 payload block sealed ∙ is)))
 
 -- the same behind a file
 pub behind : (revision : ℕ) (bytes : List ℕ) (before after : OpenBlock) (file out : List Block) → PutsBytes revision bytes before after [] out → PutsBytes revision bytes before after file (file ++ out)

@@ -2,7 +2,7 @@ use Rattle.std.proofs.Common.{sym, ap, ◌∙◌}
 use Rattle.forest_model.specs.declared.stored.Header.{Header}
 use Rattle.file_parts.specs.Held.{held}
 use Rattle.file_commit.specs.Committing.{header_after}
-use Rattle.file_commit.proofs.Padded.{opened, padded_number, entered, tells_of}
+use Rattle.file_commit.proofs.Padded.{opened, padded_number, near_end, entered, tells_of}
 use Rattle.file_commit.proofs.committing.commit_new.Goals as goal
 
 pub returns-in-Ok-clause-gives : goal.returns-in-Ok-clause-gives
@@ -20,3 +20,7 @@ returns-in-Ok-clause-gives g c =
         shown = λ t. ap g.H.View.View.content c.enter.ensures.view ∙ c.in-Ok.ensures.shown t ∙ sym (ap (λ h. (g.H.Host.disk h).files c.args.parts.now.revision) c.enter.ensures.host);
       },
     )
+
+pub enter-requires-clause-near : goal.enter-requires-clause-near
+enter-requires-clause-near g c κs within =
+    near_end c.args.parts.now.revision c.args.parts.now.tail c.pad-block.new.self c.pad-block.result c.args.parts.now.header_at c.number-at.result c.requires.near c.pad-block.ensures c.number-at.ensures
