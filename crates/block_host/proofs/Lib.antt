@@ -3,5 +3,6 @@ mod Padding
 mod Room
 mod Front
 pub mod Back
+mod Unsealed
 mod InTurn
 mod Alone
