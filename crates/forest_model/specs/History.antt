@@ -99,6 +99,10 @@ pub record IsSection (updates : List Section) (stop : Option Section) (s : Secti
   pub not_fallen : HaveNotFallen s.entered s.left
   pub deed : DeedIn updates stop s s.deed
 
+-- a pass that was joined to another has nothing left
+abbrev pub IsSpent : Notes → Type 0
+IsSpent n = (n.told ≡ []) × (n.sections ≡ [])
+
 module _ {T : Type 0} (shows : T → Point) (is_sound : T → Type 0) (covers : T → ℕ → List Durable → Type 0) where
   -- A point that somebody noted: `first` is the value at place 0, and `now` as it stands.
   pub record IsNoted (first now : T) (updates : List Section) (stop : Option Section) (p : Point) : Type 0 where
@@ -128,20 +132,17 @@ module _ {T : Type 0} (shows : T → Point) (is_sound : T → Type 0) (covers : 
 
   -- The history itself: its updates are in order, and each is a step of the sequential store.
   pub record IsHistory (first now : T) (updates : List Section) (stop : Option Section) : Type 0 where
+    pub start : place_of (shows first) ≡ 0
     pub numbered : Numbered 0 updates
     pub run : is_sound first → Run (shows first).state updates (shows now).state
     pub last : IsLast first now updates stop
 
-  -- a pass that was joined to another has nothing left
-  abbrev pub IsSpent : Notes → Type 0
-  IsSpent n = (n.told ≡ []) × (n.sections ≡ [])
-
   -- All passes agree on the history: each by itself, and all together they have its shares and made its places.
   pub record Agree {V : Type 0} (notes : V → Notes) (first now : T) (updates : List Section) (stop : Option Section) (passes : List V) : Type 0 where
     pub history : IsHistory first now updates stop
-    pub each : (seat : ℕ) (v : V) → get_elem? passes seat ≡ some v → AgreesWith first now updates stop (notes v)
-    pub shares : sum_by (λ v. (notes v).shares) passes ≡ all_shares
+    pub each : (seat : ℕ) (v : V) → get_elem? passes seat ≡ some v → 0 < (notes v).shares → AgreesWith first now updates stop (notes v)
     pub spent : (seat : ℕ) (v : V) → get_elem? passes seat ≡ some v → (notes v).shares ≡ 0 → IsSpent (notes v)
+    pub shares : sum_by (λ v. (notes v).shares) passes ≡ all_shares
     -- places 1 to the count were made, each once
     pub made_once : (place : ℕ) → sum_by (λ v. times_made place (notes v)) passes ≡ (if nat_le 1 place && nat_le place (length updates) then 1 else 0)
     pub tried_once : sum_by (λ v. length (tried (notes v))) passes ≡ length (option_to_list stop)
@@ -180,7 +181,7 @@ module _ {T : Type 0} (shows : T → Point) (is_sound : T → Type 0) (covers : 
     pub base : (shows value).base ≡ base_of_call call (shows taken).base (length (shows value).blocks)
     pub own : covers value (shows value).clock (own_durable (shows value) ∷ [])
     pub both : covers value (shows taken).clock (own_durable (shows taken) ∷ own_durable (shows value) ∷ [])
-    pub earlier : (since : ℕ) (list : List Durable) → since ≤ (shows taken).clock → covers taken since list → covers value since (list ++ own_durable (shows value) ∷ [])
+    pub earlier : (since : ℕ) (list : List Durable) → since < (shows taken).clock → covers taken since list → covers value since (list ++ own_durable (shows value) ∷ [])
 
   pub record Keeps (taken value : T) : Type 0 where
     pub not_fallen : HaveNotFallen (shows taken) (shows value)
@@ -204,7 +205,7 @@ module _ {T : Type 0} (shows : T → Point) (is_sound : T → Type 0) (covers : 
     pub sound : is_sound value
     pub state : (shows value).state ≡ (shows taken).state
     pub both : covers value (shows taken).clock (own_durable (shows taken) ∷ durable_of (step_of (shows taken).state (shows taken).blocks call).1 ∷ [])
-    pub earlier : (since : ℕ) (list : List Durable) → since ≤ (shows taken).clock → covers taken since list
+    pub earlier : (since : ℕ) (list : List Durable) → since < (shows taken).clock → covers taken since list
         → covers value since (list ++ durable_of (step_of (shows taken).state (shows taken).blocks call).1 ∷ [])
 
   -- The condition on a first value: it stands at place 0 and runs, and a sound one covers its own durable alone.
