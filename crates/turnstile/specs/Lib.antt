@@ -1,0 +1,4 @@
+pub mod Noting
+pub mod Rule
+pub mod Passes
+pub mod Counting
