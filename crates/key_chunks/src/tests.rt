@@ -47,12 +47,11 @@ fn longer_keys(rt: HostRuntime) -> Result<(), Fail> {
 
 #[test]
 fn the_longest_key(rt: HostRuntime) -> Result<(), Fail> {
-    let key = vec![in rt.alloc(); 0; 3500]?;
-    assert_eq!(rt; key.len(), 3500);
-    let list = chunks(rt.alloc(), 7, key.as_slice())?;
-    assert_eq!(rt; list.as_slice().len(), 501);
-    let found = key_of(rt.alloc(), list.as_slice())?;
-    assert!(rt; found.is_some());
+    let alloc = rt.alloc();
+    let key = vec![in alloc; 0; 3500]?;
+    let mut groups = vec![in alloc; 8; 499]?;
+    groups.push(7)?;
+    assert!(rt; is_cut(alloc, 7, key.as_slice(), groups.as_slice())?);
     Ok(())
 }
 
