@@ -1,10 +1,10 @@
 -- The file of a new store: one block, which is the header of commit 0.
-use Rattle.std.proofs.Common.{◌≡◌, ℕ, cond, Bool, true, false, List, [], ◌∷◌, ◌++◌, length, Some, refl, sym, ap, subst, ◌∙◌, arith}
+use Rattle.std.proofs.Common.{◌≡◌, ℕ, cond, Bool, true, false, List, [], ◌∷◌, ◌++◌, length, Some, refl, sym, ap, subst, ◌∙◌}
 use Rattle.std.specs.Prelude.{IsTrue}
 use Rattle.std.specs.Option.{option_map_or}
 use Rattle.std.proofs.lemmas.Bool.{false≢true}
 use Rattle.block_host.specs.Disk.{Image}
-use Rattle.block_host.specs.Sealed.{IsSealed, sealed_front, with_checksum, padded, zeros}
+use Rattle.block_host.specs.Sealed.{sealed_front, with_checksum, padded, zeros}
 use Rattle.block_host.specs.declared.block.Block.{Block}
 use Rattle.file_parts.specs.Held.{Held}
 use Rattle.file_core.specs.Updates.{IsFile, bytes_of}
@@ -34,10 +34,10 @@ one_below : (header : List ℕ) → is_header header ≡ true → last_header (h
 unfolding header_below
 one_below header is = ap (λ (b : Bool). cond b (Some 0) (header_below (header ∷ []) 0)) is
 
-module _ (block : Block) (sealed : IsSealed 1 0 4 (header_bytes new_header) block) where
+module _ (block : Block) (sealed : block.bytes ≡ with_checksum (sealed_front 1 0 4 (header_bytes new_header))) where
   bytes_are : block.bytes ≡ front ++ (checked front).0
   unfolding front
-  bytes_are = sealed.bytes ∙ (checked front).1
+  bytes_are = sealed ∙ (checked front).1
 
   last_is : last_header (bytes_of (block ∷ [])) ≡ Some 0
   last_is = one_below block.bytes (ap is_header bytes_are ∙ kind_in (checked front).0)
@@ -54,12 +54,12 @@ module _ (block : Block) (sealed : IsSealed 1 0 4 (header_bytes new_header) bloc
 made : Block
 made = record { bytes = with_checksum (sealed_front 1 0 4 (header_bytes new_header)) }
 
-made_sealed : IsSealed 1 0 4 (header_bytes new_header) made
-unfolding long made
-made_sealed = record { least = omega arith; greatest = omega arith; fits = omega arith; bytes = refl }
+made_sealed : made.bytes ≡ with_checksum (sealed_front 1 0 4 (header_bytes new_header))
+unfolding made
+made_sealed = refl
 
 new_file : (told : Bool) (limits : Limits) (file : List Block) (files : Image) → (IsTrue told → IsNewStore files) → (IsTrue told → file ≡ files 1) → (f : File) × IsFile told (new_held limits) file f
-new_file true limits file files new same = let n = new refl in (bytes_of (n.header ∷ []), file_is n.header n.header_is true limits file (λ tells. same tells ∙ n.file))
+new_file true limits file files new same = let n = new refl in (bytes_of (n.header ∷ []), file_is n.header n.header_is.bytes true limits file (λ tells. same tells ∙ n.file))
 new_file false limits file files new same = (bytes_of (made ∷ []), file_is made made_sealed false limits file (λ tells. absurd (false≢true tells)))
 
 pub file_by : (told : Bool) (limits : Limits) (file : List Block) (files : Image) (p : Held) → p ≡ new_held limits → (IsTrue told → IsNewStore files) → (IsTrue told → file ≡ files 1) → (f : File) × IsFile told p file f

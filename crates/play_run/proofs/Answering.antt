@@ -1,4 +1,4 @@
--- What an open file's calls answer, as the lines of a lane tell it.
+-- What an open file's calls answer, as it is said to the lines of a lane.
 use Rattle.std.proofs.Common.{◌≡◌, ℕ, ◌≤◌, Bool, refl, sym, ap, subst, ◌∙◌, arith, inl, inr}
 use Rattle.std.specs.Prelude.{◌≢◌, ◌⊎◌, IsTrue, Some, Result, Ok, Err, IfOk, IfErr, OnOk}
 use Rattle.file_parts.specs.Held.{Held}
@@ -42,9 +42,9 @@ abbrev pub Somewhere : Bool → Moment → Type 0
 Somewhere told m = (s : State) × (f : File) × StandsFor told (opened_at m) s f
 
 -- a step that leaves the state tells its reply
-module _ (told : Bool) (verb : Verb) (call : Call) (before : StoreRef) (new : Opened) (s : State) (f : File) where
-  stays_steps : (said : Said) (reply : Reply) → (step_of s f call).0 ≡ reply → (step_of s f call).1 ≡ s → (IsTrue told → said ≡ said_of verb (step_of s f call).0) → store_after before reply ≡ before
-      → StandsFor told new s f → Steps told verb call before before new s f said
+module _ (told : Bool) (call : Call) (before : StoreRef) (new : Opened) (s : State) (f : File) where
+  stays_steps : (said : Said) (reply : Reply) → (step_of s f call).0 ≡ reply → (step_of s f call).1 ≡ s → (IsTrue told → said ≡ said_of call (step_of s f call).0) → store_after before reply ≡ before
+      → StandsFor told new s f → Steps told call before before new s f said
   stays_steps said reply replies stays is at now = record {
     said_is = is;
     at_is = sym (ap (store_after before) replies ∙ at);
@@ -53,8 +53,8 @@ module _ (told : Bool) (verb : Verb) (call : Call) (before : StoreRef) (new : Op
     now = subst (λ (t : State). StandsFor told new t f) (sym stays) now;
   }
 
-  refused_steps : (why : Refusal) → (step_of s f call).0 ≡ Refused why → StandsFor told new s f → Steps told verb call before before new s f (says.Refused why)
-  refused_steps why e now = stays_steps (says.Refused why) (Refused why) e (step_leaves s f call why e).1 (λ _. sym (ap (said_of verb) e)) refl now
+  refused_steps : (why : Refusal) → (step_of s f call).0 ≡ Refused why → StandsFor told new s f → Steps told call before before new s f (says.Refused why)
+  refused_steps why e now = stays_steps (says.Refused why) (Refused why) e (step_leaves s f call why e).1 (λ _. sym (ap (said_of call) e)) refl now
 
 -- ---- what a call of an open file owes whose refusal ends the run or is said
 
@@ -112,7 +112,7 @@ module _ {T : Type 0} (told : Bool) (reply : T → Reply) (verb : Verb) (call : 
   abbrev Updates : Result T Refusal → Type 0
   Updates result = (s : State) (f : File) → StandsAt told old s → IsFile told old.held old.file f → UpdatesAs told reply s f call old new result
 
-  pub update_done : (after : StoreRef) (value : T) (said : Said) → call_at at verb ≡ Some call → said_of verb (reply value) ≡ said → store_after at (reply value) ≡ after → Updates (Ok value)
+  pub update_done : (after : StoreRef) (value : T) (said : Said) → call_at at verb ≡ Some call → said_of call (reply value) ≡ said → store_after at (reply value) ≡ after → Updates (Ok value)
       → Answers told verb at after (opened_at old) (opened_at new) said
   update_done after value said is_call is_said is_after updates = record {
     call = call;
@@ -120,7 +120,7 @@ module _ {T : Type 0} (told : Bool) (reply : T → Reply) (verb : Verb) (call : 
     steps = λ s f st.
         let done = (updates s f st.stands st.file).done in
         record {
-          said_is = λ _. sym (ap (said_of verb) done.0 ∙ is_said);
+          said_is = λ _. sym (ap (said_of call) done.0 ∙ is_said);
           at_is = sym (ap (store_after at) done.0 ∙ is_after);
           grown = done.2.0;
           grows = done.2.1;
@@ -134,7 +134,7 @@ module _ {T : Type 0} (told : Bool) (reply : T → Reply) (verb : Verb) (call : 
     call = call;
     is_call = is_call;
     steps = λ s f st. elim (updates s f st.stands st.file).reason [
-      | inl r ↦ refused_steps told verb call at (opened_at new) s f why r.0 (record { stands = r.1; file = r.2 })
+      | inl r ↦ refused_steps told call at (opened_at new) s f why r.0 (record { stands = r.1; file = r.2 })
       | inr (inl r) ↦ absurd (subst HasText r.0 text)
       | inr (inr r) ↦ absurd (subst HasText r.0 text)
     ];
@@ -190,7 +190,7 @@ text_leaves faults p (refusal.Damaged file block) text = absurd text
 text_leaves faults p why text = refl
 
 module _ (told : Bool) (verb : Verb) (call : Call) (at : StoreRef) (old new : Moment) (is_call : call_at at verb ≡ Some call) (room : (s : State) (f : File) → step_of s f call ≡ step_with_room s call) where
-  pub read_found : Unmoved told old new → (found : Found) (say : Found → Said) → ((x : Found) → said_of verb (Document x) ≡ say x)
+  pub read_found : Unmoved told old new → (found : Found) (say : Found → Said) → ((x : Found) → said_of call (Document x) ≡ say x)
       → ((s : State) → StandsAt told old s → ReadsAs told s call old.held.revision old.view_faults new.view_faults (Ok found)) → Answers told verb at at (opened_at old) (opened_at new) (say found)
   read_found same found say is reads = record {
     call = call;
@@ -198,8 +198,8 @@ module _ (told : Bool) (verb : Verb) (call : Call) (at : StoreRef) (old new : Mo
     steps = λ s f st.
         let r = reads s st.stands in
         let there = room s f ∙ r.there.1 in
-        stays_steps told verb call at (opened_at new) s f (say found) (Document r.there.0) (ap (λ (o : Outcome). o.0) there) (ap (λ (o : Outcome). o.1) there)
-        (λ t. sym (ap (λ (o : Outcome). said_of verb o.0) (room s f ∙ r.found t) ∙ is found)) refl (unmoved_stands told old new s f same st);
+        stays_steps told call at (opened_at new) s f (say found) (Document r.there.0) (ap (λ (o : Outcome). o.0) there) (ap (λ (o : Outcome). o.1) there)
+        (λ t. sym (ap (λ (o : Outcome). said_of call o.0) (room s f ∙ r.found t) ∙ is found)) refl (unmoved_stands told old new s f same st);
   }
 
   -- a read that fails has no text, and a fault is the view's
@@ -220,7 +220,7 @@ module _ (told : Bool) (verb : Verb) (call : Call) (at : StoreRef) (old new : Mo
     call = call;
     is_call = is_call;
     steps = λ s f st. elim (reads s st.stands).reason [
-      | inl e ↦ refused_steps told verb call at (opened_at new) s f why (ap (λ (o : Outcome). o.0) (room s f ∙ e)) (unmoved_stands told old new s f (same text) st)
+      | inl e ↦ refused_steps told call at (opened_at new) s f why (ap (λ (o : Outcome). o.0) (room s f ∙ e)) (unmoved_stands told old new s f (same text) st)
       | inr r ↦ absurd (no_text why r text)
     ];
   }
@@ -239,19 +239,19 @@ module _ (told : Bool) (verb : Verb) (call : Call) (at : StoreRef) (old new : Mo
       refuses_by told verb at old new why result is (read_text why same reads) (λ text. (host, untroubled (no_fault Found why text))) (read_reasons host why reads somewhere untroubled)
 
   -- the same where the reply alone is known
-  pub reply_told : Unmoved told old new → (reply : Reply) (said : Said) → said_of verb reply ≡ said → store_after at reply ≡ at → ((s : State) → StandsAt told old s → step_with_room s call ≡ (reply, s))
+  pub reply_said : Unmoved told old new → (reply : Reply) (said : Said) → said_of call reply ≡ said → store_after at reply ≡ at → ((s : State) → StandsAt told old s → step_with_room s call ≡ (reply, s))
       → Answers told verb at at (opened_at old) (opened_at new) said
-  reply_told same reply said is stays replies = record {
+  reply_said same reply said is stays replies = record {
     call = call;
     is_call = is_call;
     steps = λ s f st.
         let there = room s f ∙ replies s st.stands in
-        stays_steps told verb call at (opened_at new) s f said reply (ap (λ (o : Outcome). o.0) there) (ap (λ (o : Outcome). o.1) there)
-        (λ _. sym (ap (λ (o : Outcome). said_of verb o.0) there ∙ is)) stays (unmoved_stands told old new s f same st);
+        stays_steps told call at (opened_at new) s f said reply (ap (λ (o : Outcome). o.0) there) (ap (λ (o : Outcome). o.1) there)
+        (λ _. sym (ap (λ (o : Outcome). said_of call o.0) there ∙ is)) stays (unmoved_stands told old new s f same st);
   }
 
   pub reply_refused : Unmoved told old new → (why : Refusal) (result : Result Said Ended) → result ≡ said_or_ended why → ((s : State) → StandsAt told old s → step_with_room s call ≡ (Refused why, s)) → Somewhere told old
       → new.view_faults ≡ old.view_faults → Refuses told verb at old new result
   reply_refused same why result is replies somewhere view =
-      refuses_by told verb at old new why result is (λ _. reply_told same (Refused why) (says.Refused why) refl refl replies) (λ _. (same.host, view))
+      refuses_by told verb at old new why result is (λ _. reply_said same (Refused why) (says.Refused why) refl refl replies) (λ _. (same.host, view))
       (inl (step_leaves somewhere.0 somewhere.1 call why (ap (λ (o : Outcome). o.0) (room somewhere.0 somewhere.1 ∙ replies somewhere.0 somewhere.2.stands))).0)

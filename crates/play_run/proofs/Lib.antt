@@ -1,7 +1,7 @@
 mod Kept
 mod Refusing
 mod Answering
-mod Telling
+mod Turns
 mod Starting
 mod Counts
 mod Runs

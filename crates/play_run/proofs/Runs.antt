@@ -6,9 +6,8 @@ use Rattle.std.specs.Prelude.{IsTrue}
 use Rattle.block_host.specs.Disk.{Disk}
 use Rattle.file_core.specs.Updates.{bytes_of}
 use Rattle.forest_model.specs.Blocks.{File}
-use Rattle.forest_model.specs.Session.{Session}
-use Rattle.forest_model.specs.Session as sessions
-use Rattle.forest_model.specs.Run.{Run, FileAfter, call_in}
+use Rattle.forest_model.specs.Session.{Session, IsTurn, call_in}
+use Rattle.forest_model.specs.Run.{Run, FileAfter}
 use Rattle.forest_model.specs.declared.line.Line.{Line}
 use Rattle.forest_model.specs.declared.line.Told.{Told}
 use Rattle.play_run.specs.Seen.{Seen, seen, current}
@@ -19,16 +18,16 @@ use Rattle.play_run.proofs.Kept.{session_kept}
 
 -- one line more
 pub Run-push : (w : Session) (file : File) (lines : List Line) (told : List Told) (mid next : Session) (at grown : File) (line : Line) (t : Told)
-    → Run w file lines told mid at → sessions.Tells mid at line next t → FileAfter mid.state at (call_in mid line) next.state grown
+    → Run w file lines told mid at → IsTurn mid at line next t → FileAfter mid.state at (call_in mid line) next.state grown
     → Run w file (lines ++ line ∷ []) (told ++ t ∷ []) next grown
-Run-push w file [] [] mid next at grown line t run tells grows =
-    let at_start : sessions.Tells w file line next t = subst (λ (s : Session). sessions.Tells s file line next t) run.0 (subst (λ f. sessions.Tells mid f line next t) run.1 tells) in
+Run-push w file [] [] mid next at grown line t run turn grows =
+    let at_start : IsTurn w file line next t = subst (λ (s : Session). IsTurn s file line next t) run.0 (subst (λ f. IsTurn mid f line next t) run.1 turn) in
     let grows_there : FileAfter w.state file (call_in w line) next.state grown = subst (λ (s : Session). FileAfter s.state file (call_in s line) next.state grown) run.0 (subst (λ f. FileAfter mid.state f (call_in mid line) next.state grown) run.1 grows) in
     (next, grown, at_start, grows_there, (refl, refl))
-Run-push w file [] (t' ∷ told) mid next at grown line t run tells grows = absurd run
-Run-push w file (l ∷ lines) [] mid next at grown line t run tells grows = absurd run
-Run-push w file (l ∷ lines) (t' ∷ told) mid next at grown line t run tells grows =
-    (run.0, run.1, run.2, run.3, Run-push run.0 run.1 lines told mid next at grown line t run.4 tells grows)
+Run-push w file [] (t' ∷ told) mid next at grown line t run turn grows = absurd run
+Run-push w file (l ∷ lines) [] mid next at grown line t run turn grows = absurd run
+Run-push w file (l ∷ lines) (t' ∷ told) mid next at grown line t run turn grows =
+    (run.0, run.1, run.2, run.3, Run-push run.0 run.1 lines told mid next at grown line t run.4 turn grows)
 
 -- a position over another disk, whose files are the same
 abbrev pub on_disk : Position → Disk → Position
@@ -156,7 +155,7 @@ run_more tells base heard middle texts m m' disk count text bytes t r runs plain
       first = r.first;
       last = l.grown;
       after = l.next;
-      run = Run-push start r.first r.lines r.told r.after l.next r.last l.grown runs.line l.told r.run l.step l.grows;
+      run = Run-push start r.first r.lines r.told r.after l.next r.last l.grown runs.line l.told r.run l.turn l.grows;
       here = here;
       said_is = λ told. heard_are told ∙ ap (λ xs. xs ++ bytes) (runs.silent told ∙ r.said_is told) ∙ ap (λ xs. (base.said ++ replies r.told) ++ xs) (bytes_are ∙ ap reply_line (l.same told))
           ∙ append_assoc base.said (replies r.told) (reply_line l.told) ∙ ap (λ xs. base.said ++ xs) (sym (replies-push r.told l.told));
@@ -176,7 +175,7 @@ run_part tells base heard middle heard' texts m m' count text bytes t r runs pla
       told = r.told ++ l.told ∷ [];
       taken = AreTaken-push r.lines texts runs.line text r.taken runs.taken plain;
       after = l.next;
-      run = Run-push start r.first r.lines r.told r.after l.next r.last l.grown runs.line l.told r.run l.step l.grows;
+      run = Run-push start r.first r.lines r.told r.after l.next r.last l.grown runs.line l.told r.run l.turn l.grows;
       is = refl;
     } in
     part_heard tells base middle heard' (texts ++ text ∷ []) r.first l.grown (replies r.told) bytes (replies (r.told ++ l.told ∷ [])) said_all r.first_is

@@ -1,4 +1,4 @@
--- What an open file answers to a verb leads a session of lanes on, as the sequential store does.
+-- What an open file answers to a verb is a turn of a session of lanes over the sequential store.
 use Rattle.std.proofs.Common.{◌≡◌, ◌≢◌, ℕ, zero, suc, ◌<◌, ◌≤◌, Bool, true, false, List, [], ◌∷◌, refl, sym, ap, subst, ◌∙◌, arith, inl}
 use Rattle.std.specs.Prelude.{IsTrue, Option, Some, None, ◌==◌, if◌then◌else◌, slice_get, slice_set, slice_index_or}
 use Rattle.std.specs.Option.{option_map_or}
@@ -7,12 +7,12 @@ use Rattle.std.proofs.lemmas.Option.{get_or_from_slice_get}
 use Rattle.forest_model.specs.Blocks.{File}
 use Rattle.forest_model.specs.Documents.{after_items, doc_at, doc_numbered}
 use Rattle.forest_model.specs.Run.{FileAfter}
-use Rattle.forest_model.specs.Session.{Session, Lane, Copier, call_of, needs_copy, with_copier_full, with_lane, lane_after, told_by_file, told_of}
-use Rattle.forest_model.specs.Session as sessions
+use Rattle.forest_model.specs.Session.{Session, Lane, Copier, IsTurn, call_in, call_of, copier_failed, is_copied, lane_after, outcome_of, said_of, turn_aside, turn_by_file, with_lane}
 use Rattle.forest_model.specs.State.{nothing_new}
 use Rattle.forest_model.specs.Stores.{store_named, seq_of}
 use Rattle.forest_model.specs.Step.{Outcome, refused_or, step_of, first_cause, causes, full, answer}
 use Rattle.forest_model.specs.declared.call.Call.{Call}
+use Rattle.forest_model.specs.declared.call.Call.TheVariants as calls
 use Rattle.forest_model.specs.declared.call.Reply.{Reply}
 use Rattle.forest_model.specs.declared.call.Reply.TheVariants as replies
 use Rattle.forest_model.specs.declared.call.StoreRef.{StoreRef}
@@ -20,7 +20,7 @@ use Rattle.forest_model.specs.declared.refusal.Refusal.{Refusal}
 use Rattle.forest_model.specs.declared.line.Line.{Line}
 use Rattle.forest_model.specs.declared.line.Said.{Said}
 use Rattle.forest_model.specs.declared.line.Verb.{Verb}
-use Rattle.forest_model.specs.declared.line.Verb.TheVariants.{UseStore, Remove, Set, Del, Batch, Get, BySeq, Commit, Info, CompactDelta, CompactSwitch}
+use Rattle.forest_model.specs.declared.line.Verb.TheVariants.{UseStore, Remove, Set, Del, Batch, Get, BySeq, Commit, Info}
 use Rattle.forest_model.specs.declared.state.State.{State}
 use Rattle.play_run.specs.Built.{is_built_verb}
 use Rattle.play_run.specs.Playing.{Opened, Position, IsAt, Steps, Answers, Leads, call_at, store_after}
@@ -40,55 +40,49 @@ built_call lane copier Commit b = refl
 built_call lane copier Info b = refl
 built_call lane copier verb b = absurd (false≢true b)
 
--- no reply of theirs needs the copier's file
-no_copy : (verb : Verb) (reply : Reply) → IsTrue (is_built_verb verb) → needs_copy verb reply ≡ false
-no_copy CompactDelta reply b = absurd (false≢true b)
-no_copy CompactSwitch reply b = absurd (false≢true b)
-no_copy verb reply b = refl
+-- nothing goes to the copier's file, and the file stays the same one
+abbrev StaysHere : Call → State → Outcome → Type 0
+StaysHere call s o = (is_copied (said_of call o.0) ≡ false) × (o.1.revision ≡ s.revision)
 
--- the file stays the same one
-abbrev SameRevision : State → Outcome → Type 0
-SameRevision s o = o.1.revision ≡ s.revision
+refused_here : (call : Call) (why : Option Refusal) (s : State) (o : Outcome) → StaysHere call s o → StaysHere call s (refused_or why s o)
+refused_here call None s o stays = stays
+refused_here call (Some why) s o stays = (refl, refl)
 
-refused_same : (why : Option Refusal) (s : State) (o : Outcome) → SameRevision s o → SameRevision s (refused_or why s o)
-refused_same None s o same = same
-refused_same (Some why) s o same = refl
+either_here : (call : Call) (b : Bool) (s : State) (x y : Outcome) → StaysHere call s x → StaysHere call s y → StaysHere call s (if b then x else y)
+either_here call true s x y l r = l
+either_here call false s x y l r = r
 
-either_same : (b : Bool) (s : State) (x y : Outcome) → SameRevision s x → SameRevision s y → SameRevision s (if b then x else y)
-either_same true s x y l r = l
-either_same false s x y l r = r
-
-option_same : {A : Type 0} (o : Option A) (s : State) (f : A → Outcome) (none : Outcome) → ((a : A) → SameRevision s (f a)) → SameRevision s none → SameRevision s (option_map_or f o none)
-option_same None s f none l r = r
-option_same (Some a) s f none l r = l a
+option_here : {A : Type 0} (call : Call) (o : Option A) (s : State) (f : A → Outcome) (none : Outcome) → ((a : A) → StaysHere call s (f a)) → StaysHere call s none → StaysHere call s (option_map_or f o none)
+option_here call None s f none l r = r
+option_here call (Some a) s f none l r = l a
 
 abbrev IfCall : State → Option Call → Type 0
 IfCall s None = Unit {0}
-IfCall s (Some call) = SameRevision s (answer s call)
+IfCall s (Some call) = StaysHere call s (answer s call)
 
 built_answers : (s : State) (at : StoreRef) (verb : Verb) → IsTrue (is_built_verb verb) → IfCall s (call_at at verb)
-built_answers s at (UseStore name read_only) b = option_same (store_named s.stores name) s _ _ (λ st. refl) refl
-built_answers s at (Remove name) b = option_same (store_named s.stores name) s _ _ (λ st. refl) refl
-built_answers s at (Set key meta body) b = refl
-built_answers s at (Del key) b = refl
-built_answers s at (Batch items) b = option_same (after_items at.store items (seq_of s.stores at.store) s.documents) s _ _ (λ after. refl) refl
-built_answers s at (Get key) b = option_same (doc_at s.documents at.store key) s _ _ (λ d. refl) refl
-built_answers s at (BySeq seq) b = option_same (doc_numbered s.documents at.store seq) s _ _ (λ e. refl) refl
-built_answers s at Commit b = either_same (nothing_new s) s _ _ refl refl
-built_answers s at Info b = refl
+built_answers s at (UseStore name read_only) b = option_here (calls.StoreOpen name read_only) (store_named s.stores name) s _ _ (λ st. (refl, refl)) (refl, refl)
+built_answers s at (Remove name) b = option_here (calls.StoreRemove at name) (store_named s.stores name) s _ _ (λ st. (refl, refl)) (refl, refl)
+built_answers s at (Set key meta body) b = (refl, refl)
+built_answers s at (Del key) b = (refl, refl)
+built_answers s at (Batch items) b = option_here (calls.Batch at items) (after_items at.store items (seq_of s.stores at.store) s.documents) s _ _ (λ after. (refl, refl)) (refl, refl)
+built_answers s at (Get key) b = option_here (calls.Get at key) (doc_at s.documents at.store key) s _ _ (λ d. (refl, refl)) (refl, refl)
+built_answers s at (BySeq seq) b = option_here (calls.BySeq at seq) (doc_numbered s.documents at.store seq) s _ _ (λ e. (refl, refl)) (refl, refl)
+built_answers s at Commit b = either_here (calls.Commit at) (nothing_new s) s _ _ (refl, refl) (refl, refl)
+built_answers s at Info b = (refl, refl)
 built_answers s at verb b = absurd (false≢true b)
 
-built_same : (s : State) (f : File) (at : StoreRef) (verb : Verb) (call : Call) → IsTrue (is_built_verb verb) → call_at at verb ≡ Some call → SameRevision s (step_of s f call)
-built_same s f at verb call b is =
-    refused_same (first_cause (causes s call)) s (refused_or (full s f call) s (answer s call))
-    (refused_same (full s f call) s (answer s call) (subst (IfCall s) is (built_answers s at verb b)))
+built_here : (s : State) (f : File) (at : StoreRef) (verb : Verb) (call : Call) → IsTrue (is_built_verb verb) → call_at at verb ≡ Some call → StaysHere call s (step_of s f call)
+built_here s f at verb call b is =
+    refused_here call (first_cause (causes s call)) s (refused_or (full s f call) s (answer s call))
+    (refused_here call (full s f call) s (answer s call) (subst (IfCall s) is (built_answers s at verb b)))
 
 -- ---- the lanes
 
-store_told : (lane : Lane) (verb : Verb) (reply : Reply) (s : State) → (lane_after lane verb reply s).at ≡ store_after lane.at reply
-store_told lane verb (replies.Store at) s = refl
-store_told lane verb replies.Snapped s = refl
-store_told lane verb reply s = refl
+store_is : (lane : Lane) (call : Call) (reply : Reply) (s : State) → (lane_after lane call reply s).at ≡ store_after lane.at reply
+store_is lane call (replies.Store at) s = refl
+store_is lane call replies.Snapped s = refl
+store_is lane call reply s = refl
 
 set_there : (xs : List StoreRef) (at : ℕ) (to x : StoreRef) → slice_get xs at ≡ Some x → slice_get (slice_set xs at to) at ≡ Some to
 set_there [] at to x is = cc
@@ -120,26 +114,29 @@ module _ (told : Bool) (old : Position) (file : Opened) (w : Session) (f : File)
     abbrev outcome : Outcome
     outcome = step_of w.state f call
 
-    call_is : call_of lane_of w.copier line.verb ≡ Some call
+    stays : StaysHere call w.state outcome
+    stays = built_here w.state f lane_of.at line.verb call built is_call
+
+    call_is : call_in w line ≡ Some call
     call_is = built_call lane_of w.copier line.verb built ∙ is_call
 
-    tells : sessions.Tells w f line (told_by_file w line outcome).0 (told_by_file w line outcome).1
-    tells = inl (ap (told_of w f line) call_is ∙ ap (λ (o : Outcome). Some (told_by_file w line o)) no_copier) where
-      no_copier : with_copier_full w.state w.copier line.verb outcome ≡ outcome
-      no_copier = ap (λ b. if b then sessions.refused_again (sessions.copier_refusal w.copier) w.state outcome else outcome) (no_copy line.verb outcome.0 built)
+    is_turn : IsTurn w f line (turn_by_file w line call outcome).0 (turn_by_file w line call outcome).1
+    is_turn =
+        inl (ap (λ (o : Option Call). option_map_or (λ c. Some (turn_by_file w line c (outcome_of w f c))) o (turn_aside w line line.verb)) call_is
+        ∙ ap (λ (b : Bool). Some (turn_by_file w line call (if b then refused_or (copier_failed w.copier) w.state outcome else outcome))) stays.0)
 
-    leads_by : (at : StoreRef) (said : Said) → line.lane ≤ 15 → IsAt told old w f → Steps told line.verb call lane_of.at at file w.state f said
+    leads_by : (at : StoreRef) (said : Said) → line.lane ≤ 15 → IsAt told old w f → Steps told call lane_of.at at file w.state f said
         → Leads told (record { file = file; lanes = slice_set old.lanes line.lane at }) w f line (record { lane = line.lane; place = file.held.place; said = said })
     leads_by at said low here steps = record {
-      next = (told_by_file w line outcome).0;
+      next = (turn_by_file w line call outcome).0;
       grown = steps.grown;
-      told = (told_by_file w line outcome).1;
-      step = tells;
+      told = (turn_by_file w line call outcome).1;
+      turn = is_turn;
       grows = subst (λ (o : Option Call). FileAfter w.state f o outcome.1 steps.grown) (sym call_is) steps.grows;
       now = record {
         file = steps.now;
-        lanes = lanes_after old.lanes w.lanes line.lane (lane_after lane_of line.verb outcome.0 outcome.1) at (omega (arith, low)) (steps.at_is ∙ sym (store_told lane_of line.verb outcome.0 outcome.1)) here.lanes;
-        first_file = steps.now.stands.revision ∙ built_same w.state f lane_of.at line.verb call built is_call ∙ sym here.file.stands.revision ∙ here.first_file;
+        lanes = lanes_after old.lanes w.lanes line.lane (lane_after lane_of call outcome.0 outcome.1) at (omega (arith, low)) (steps.at_is ∙ sym (store_is lane_of call outcome.0 outcome.1)) here.lanes;
+        first_file = steps.now.stands.revision ∙ stays.1 ∙ sym here.file.stands.revision ∙ here.first_file;
       };
       same = λ tells. λ i. record { lane = line.lane; place = steps.now.stands.place i; said = steps.said_is tells i };
     }

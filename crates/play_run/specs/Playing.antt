@@ -7,8 +7,8 @@ use Rattle.file_core.specs.Stands.{Stands}
 use Rattle.file_core.specs.Updates.{IsFile}
 use Rattle.file_parts.specs.declared.parts.Parts.{Parts}
 use Rattle.forest_model.specs.Blocks.{File}
-use Rattle.forest_model.specs.Run.{FileAfter, call_in}
-use Rattle.forest_model.specs.Session.{Session, Tells, call_of, said_of}
+use Rattle.forest_model.specs.Run.{FileAfter}
+use Rattle.forest_model.specs.Session.{Session, IsTurn, call_in, call_of, said_of}
 use Rattle.forest_model.specs.Step.{step_of}
 use Rattle.forest_model.specs.declared.call.Call.{Call}
 use Rattle.forest_model.specs.declared.call.Reply.{Reply}
@@ -62,8 +62,8 @@ store_after before reply = before
 
 -- A call, as the step takes it from a state and a file: what is said for it, and the state and the file after it. Where the
 -- file isn't told, a document that is found may be another.
-pub record Steps (tells : Bool) (verb : Verb) (call : Call) (before after : StoreRef) (new : Opened) (s : State) (f : File) (said : Said) : Type 0 where
-  pub said_is : IsTrue tells → said ≡ said_of verb (step_of s f call).0
+pub record Steps (tells : Bool) (call : Call) (before after : StoreRef) (new : Opened) (s : State) (f : File) (said : Said) : Type 0 where
+  pub said_is : IsTrue tells → said ≡ said_of call (step_of s f call).0
   pub at_is : after ≡ store_after before (step_of s f call).0
   pub grown : File
   pub grows : FileAfter s f (Some call) (step_of s f call).1 grown
@@ -73,18 +73,18 @@ pub record Steps (tells : Bool) (verb : Verb) (call : Call) (before after : Stor
 pub record Answers (tells : Bool) (verb : Verb) (before after : StoreRef) (old new : Opened) (said : Said) : Type 0 where
   pub call : Call
   pub is_call : call_at before verb ≡ Some call
-  pub steps : (s : State) (f : File) → StandsFor tells old s f → Steps tells verb call before after new s f said
+  pub steps : (s : State) (f : File) → StandsFor tells old s f → Steps tells call before after new s f said
 
--- A line leads a session to the next one, and tells this, where the file is told.
+-- The turn of a line leads a session to the next one, and this is told for it, where the file is told.
 pub record Leads (tells : Bool) (new : Position) (w : Session) (f : File) (line : Line) (t : Told) : Type 0 where
   pub next : Session
   pub grown : File
   pub told : Told
-  pub step : Tells w f line next told
+  pub turn : IsTurn w f line next told
   pub grows : FileAfter w.state f (call_in w line) next.state grown
   pub now : IsAt tells new next grown
   pub same : IsTrue tells → t ≡ told
 
 -- a line leads every session for which a position stands to one for which the next position stands
-abbrev pub TellsLine : Bool → Position → Position → Line → Told → Type 0
-TellsLine tells old new line t = (w : Session) (f : File) → IsAt tells old w f → Leads tells new w f line t
+abbrev pub LeadsEach : Bool → Position → Position → Line → Told → Type 0
+LeadsEach tells old new line t = (w : Session) (f : File) → IsAt tells old w f → Leads tells new w f line t

@@ -6,7 +6,7 @@ use Rattle.forest_model.specs.declared.line.Line.{Line}
 use Rattle.forest_model.specs.declared.line.Told.{Told}
 use Rattle.forest_model.specs.Session.{Session}
 use Rattle.play_run.specs.Seen.{Seen}
-use Rattle.play_run.specs.Playing.{Position, IsAt, TellsLine}
+use Rattle.play_run.specs.Playing.{Position, IsAt, LeadsEach}
 use Rattle.block_host.specs.Disk.{risen}
 use Rattle.play_run.specs.Play.{SaidThen, PartSaid, source_fault, damaged}
 use Rattle.play_run.specs.Script.{start, bad_line, IsTaken, AreTaken, IsText, IsBad, ended, replies, HasSaid, RunsAll, RunsWhole, RunsPrefix, IsBadLine, IsBadEnd, IsTooLong}
@@ -99,7 +99,7 @@ Stops SourceFault tells base heard taken count = ⊥
 pub record RunsText (tells : Bool) (text : List ℕ) (m m' : Position) (before now : Seen) (t : Told) : Type 0 where
   pub line : Line
   pub taken : IsTaken line text
-  pub goes : TellsLine tells m m' line t
+  pub goes : LeadsEach tells m m' line t
   pub silent : IsTrue tells → now.said ≡ before.said
 
 -- Why the run of one text stops: it is no line, or there is no memory, and nothing was said; or the host failed, and at

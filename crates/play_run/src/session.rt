@@ -5,7 +5,7 @@ ghost use Rattle.forest_model.specs.State.{new_state, usual_limits};
 ghost use Rattle.script_text.specs.Grammar.{IsRight};
 ghost use Rattle.script_text.specs.Replies.{CanBeSaid};
 ghost use Rattle.play_run.specs.Built.{is_built};
-ghost use Rattle.play_run.specs.Playing.{IsAt, IsSomewhere, StandsFor, TellsLine, opened, position};
+ghost use Rattle.play_run.specs.Playing.{IsAt, IsSomewhere, StandsFor, LeadsEach, opened, position};
 ghost use Rattle.play_run.specs.Progress.{FaultsAfter, IsStop};
 ghost use Rattle.play_run.specs.Script.{start};
 
@@ -46,7 +46,7 @@ impl<H: Host> Session<H> {
         requires right { IsRight false line.now }
         requires somewhere { IsSomewhere H.tells (position (H.disk self.old.file.parts.host) (H.View.content self.old.file.parts.view) self.old.file.parts self.old.lanes) }
         ensures built { IfOk result (λ told. IsSome told ↔ IsTrue (is_built line.now)) }
-        ensures goes { IfOk result (λ told. IfSome told (TellsLine H.tells
+        ensures goes { IfOk result (λ told. IfSome told (LeadsEach H.tells
             (position (H.disk self.old.file.parts.host) (H.View.content self.old.file.parts.view) self.old.file.parts self.old.lanes)
             (position (H.disk self.new.file.parts.host) (H.View.content self.new.file.parts.view) self.new.file.parts self.new.lanes) line.now)) }
         ensures spelled { IfOk result (λ told. IfSome told (λ t. CanBeSaid t.said)) }

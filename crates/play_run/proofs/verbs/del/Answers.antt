@@ -13,7 +13,7 @@ returns-in-Ok-clause-answers g c =
     let after = c.delete.new.self.parts in
     let old = moment_of (g.H.Host.disk before.host) (g.H.View.View.content before.view) (g.H.Host.faults before.host) (g.H.View.View.faults before.view) before in
     let new = moment_of (g.H.Host.disk after.host) (g.H.View.View.content after.view) (g.H.Host.faults after.host) (g.H.View.View.faults after.view) after in
-    update_done g.H.Host.tells replies.Seq (verbs.Del c.args.key.now) _ c.args.at.now old new c.args.at.now c.in-Ok.seq (says.Gone c.in-Ok.seq)
+    update_done g.H.Host.tells replies.Seq (verbs.Del c.args.key.now) (calls.Delete c.args.at.now c.as_slice.result.now) c.args.at.now old new c.args.at.now c.in-Ok.seq (says.Gone c.in-Ok.seq)
     (λ i. Some (calls.Delete c.args.at.now (sym c.as_slice.ensures i))) refl refl c.in-Ok.ensures.updates
 
 pub returns-in-Err : goal.returns-in-Err

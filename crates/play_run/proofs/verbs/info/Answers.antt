@@ -4,7 +4,7 @@ use Rattle.forest_model.specs.declared.call.Call.TheVariants as calls
 use Rattle.forest_model.specs.declared.call.Reply.TheVariants as replies
 use Rattle.forest_model.specs.declared.line.Said.TheVariants as says
 use Rattle.forest_model.specs.declared.line.Verb.TheVariants as verbs
-use Rattle.play_run.proofs.Answering.{reply_told, reply_refused}
+use Rattle.play_run.proofs.Answering.{reply_said, reply_refused}
 use Rattle.play_run.proofs.verbs.info.Goals as goal
 
 pub returns-in-Ok-clause-answers : goal.returns-in-Ok-clause-answers
@@ -13,7 +13,7 @@ returns-in-Ok-clause-answers g c =
     let after = c.info.new.self.parts in
     let old = moment_of (g.H.Host.disk before.host) (g.H.View.View.content before.view) (g.H.Host.faults before.host) (g.H.View.View.faults before.view) before in
     let new = moment_of (g.H.Host.disk after.host) (g.H.View.View.content after.view) (g.H.Host.faults after.host) (g.H.View.View.faults after.view) after in
-    reply_told g.H.Host.tells verbs.Info (calls.Info c.args.at.now) c.args.at.now old new
+    reply_said g.H.Host.tells verbs.Info (calls.Info c.args.at.now) c.args.at.now old new
     refl (λ s f. refl)
     (record { held = c.info.ensures.held; files = ap (λ h. (g.H.Host.disk h).files) c.info.ensures.host; shown = λ _. ap g.H.View.View.content c.info.ensures.view; host = ap g.H.Host.faults c.info.ensures.host })
     (replies.InfoIs c.in-Ok.info) (says.InfoIs c.in-Ok.info) refl refl c.in-Ok.ensures.told

@@ -13,7 +13,7 @@ returns-in-Ok-clause-answers g c =
     let after = c.store_remove.new.self.parts in
     let old = moment_of (g.H.Host.disk before.host) (g.H.View.View.content before.view) (g.H.Host.faults before.host) (g.H.View.View.faults before.view) before in
     let new = moment_of (g.H.Host.disk after.host) (g.H.View.View.content after.view) (g.H.Host.faults after.host) (g.H.View.View.faults after.view) after in
-    update_done g.H.Host.tells replies.Removed (verbs.Remove c.args.name.now) _ c.args.at.now old new c.args.at.now c.in-Ok.id (says.Removed c.in-Ok.id)
+    update_done g.H.Host.tells replies.Removed (verbs.Remove c.args.name.now) (calls.StoreRemove c.args.at.now c.as_slice.result.now) c.args.at.now old new c.args.at.now c.in-Ok.id (says.Removed c.in-Ok.id)
     (λ i. Some (calls.StoreRemove c.args.at.now (sym c.as_slice.ensures i))) refl refl c.in-Ok.ensures.updates
 
 pub returns-in-Err : goal.returns-in-Err

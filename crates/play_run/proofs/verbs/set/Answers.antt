@@ -13,7 +13,7 @@ returns-in-Ok-clause-answers g c =
     let after = c.set.new.self.parts in
     let old = moment_of (g.H.Host.disk before.host) (g.H.View.View.content before.view) (g.H.Host.faults before.host) (g.H.View.View.faults before.view) before in
     let new = moment_of (g.H.Host.disk after.host) (g.H.View.View.content after.view) (g.H.Host.faults after.host) (g.H.View.View.faults after.view) after in
-    update_done g.H.Host.tells replies.Seq (verbs.Set c.args.key.now c.args.meta.now c.args.body.now) _ c.args.at.now old new c.args.at.now c.in-Ok.seq (says.Done c.in-Ok.seq)
+    update_done g.H.Host.tells replies.Seq (verbs.Set c.args.key.now c.args.meta.now c.args.body.now) (calls.Set c.args.at.now c.as_slice.result.now c.as_slice-2.result.now c.as_slice-3.result.now) c.args.at.now old new c.args.at.now c.in-Ok.seq (says.Done c.in-Ok.seq)
     (λ i. Some (calls.Set c.args.at.now (sym c.as_slice.ensures i) (sym c.as_slice-2.ensures i) (sym c.as_slice-3.ensures i))) refl refl c.in-Ok.ensures.updates
 
 pub returns-in-Err : goal.returns-in-Err

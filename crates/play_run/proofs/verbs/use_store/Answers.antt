@@ -13,7 +13,7 @@ returns-in-Ok-clause-answers g c =
     let after = c.store_open.new.self.parts in
     let old = moment_of (g.H.Host.disk before.host) (g.H.View.View.content before.view) (g.H.Host.faults before.host) (g.H.View.View.faults before.view) before in
     let new = moment_of (g.H.Host.disk after.host) (g.H.View.View.content after.view) (g.H.Host.faults after.host) (g.H.View.View.faults after.view) after in
-    update_done g.H.Host.tells replies.Store (verbs.UseStore c.args.name.now c.args.read_only) _ c.args.at.now old new c.in-Ok.opened c.in-Ok.opened (says.Using c.in-Ok.opened.store)
+    update_done g.H.Host.tells replies.Store (verbs.UseStore c.args.name.now c.args.read_only) (calls.StoreOpen c.as_slice.result.now c.args.read_only) c.args.at.now old new c.in-Ok.opened c.in-Ok.opened (says.Using c.in-Ok.opened.store)
     (λ i. Some (calls.StoreOpen (sym c.as_slice.ensures i) c.args.read_only)) refl refl c.in-Ok.ensures.updates
 
 pub returns-in-Err : goal.returns-in-Err

@@ -1,6 +1,6 @@
 use Rattle.std.proofs.Common.{sym, false}
 use Rattle.play_run.specs.Playing.{opened, position}
-use Rattle.play_run.proofs.Telling.{leads}
+use Rattle.play_run.proofs.Turns.{leads}
 use Rattle.play_run.proofs.session.Session.tell.Goals as goal
 
 pub returns-clause-goes : goal.returns-clause-goes
