@@ -1,14 +1,16 @@
 -- What each call of a host in memory does to its disk.
-use Rattle.std.proofs.Common.{◌≡◌, ◌≢◌, ◌<◌, ℕ, Bool, true, false, List, [], ◌∷◌, ◌++◌, length, take, Ok, Err, refl, sym, ◌∙◌, ap, subst, inl, inr, ⊎_elim, eqb}
+use Rattle.std.proofs.Common.{◌≡◌, ◌≢◌, ◌<◌, ◌≤◌, ℕ, Bool, true, false, List, [], ◌∷◌, ◌++◌, length, take, Ok, Err, refl, arith, length-append, sym, ◌∙◌, ap, subst, inl, inr, ⊎_elim, eqb}
 use Rattle.std.specs.Prelude.{cond, Result, OnOk, OnErr}
 use Rattle.std.specs.Result.{is_err}
 use Rattle.std.specs.Bool.{OnTrue, OnFalse}
 use Rattle.std.proofs.Math.Path.{fun_ext}
 use Rattle.std.proofs.lemmas.Bool.{eqb-true, eqb-false, eq-eqb}
 use Rattle.block_host.specs.declared.block.Block.{Block}
-use Rattle.block_host.specs.Disk.{Image, Elapses}
+use Rattle.std.proofs.lemmas.List.{take_all, append-nil}
+use Rattle.block_host.specs.declared.failed.Failed.{Failed}
+use Rattle.block_host.specs.Disk.{Image, Elapses, Says}
 use Rattle.block_host.specs.Calls as call
-use Rattle.host_memory.specs.Pending.{FileState, Leaves, Does, no_file}
+use Rattle.host_memory.specs.Pending.{FileState, Leaves, Does, no_file, appended, slot_written, cut_to, emptied, adopted, made_sure}
 use Rattle.host_memory.specs.Held.{held, Becomes, Stays}
 use Rattle.host_memory.specs.Memory.{Shows, disk_of, Leaves-present}
 use Rattle.host_memory.specs.declared.change.Change.{Change}
@@ -169,6 +171,38 @@ module _ (old new : State) (past : List State) where
   pub adopts_not : (file : ℕ) (blocks : List Block) → Stays old new → call.Becomes {T = Unit {0}} file blocks (Err (record {})) (disk_of old past) (disk_of new past)
   adopts_not file blocks stays = record { done = tt; part = unchanged file (call.Replaced blocks) old new past stays (λ image. inl refl) }
 
+  -- each of these calls, done or not, where the state was noted
+  pub appends_either : {E : Type 0} (file : ℕ) (blocks : List Block) (done : Result (Unit {0}) E) (result : Result (Unit {0}) Failed) → is_err result ≡ is_err done
+      → OnOk done (Becomes file (appended blocks (held old file)) old new) → OnErr done (Stays old new) → call.Appends file blocks result (disk_of old past) (disk_of new (old ∷ past))
+  appends_either file blocks (Ok x) (Ok y) same ok err = appends file blocks ok
+  appends_either file blocks (Err x) (Err y) same ok err = record {
+    done = tt;
+    part = unchanged_noted file (call.Written file (length (held old file).blocks) blocks) old new past err (written-same file (length (held old file).blocks) blocks);
+  }
+  appends_either file blocks (Ok x) (Err y) same ok err = absurd cc
+  appends_either file blocks (Err x) (Ok y) same ok err = absurd cc
+
+  pub puts_either : {E : Type 0} (slot : ℕ) (block : Block) (done : Result (Unit {0}) E) (result : Result (Unit {0}) Failed) → slot < 2 → is_err result ≡ is_err done
+      → OnOk done (Becomes 0 (slot_written slot block (held old 0)) old new) → OnErr done (Stays old new) → call.Puts slot block result (disk_of old past) (disk_of new (old ∷ past))
+  puts_either slot block (Ok x) (Ok y) low same ok err = puts slot block low ok
+  puts_either slot block (Err x) (Err y) low same ok err = record { done = tt; part = unchanged_noted 0 (call.Put slot block) old new past err (put-same slot block) }
+  puts_either slot block (Ok x) (Err y) low same ok err = absurd cc
+  puts_either slot block (Err x) (Ok y) low same ok err = absurd cc
+
+  pub cuts_either : {E : Type 0} (file n : ℕ) (done : Result (Unit {0}) E) (result : Result (Unit {0}) Failed) → is_err result ≡ is_err done
+      → OnOk done (Becomes file (cut_to n (held old file)) old new) → OnErr done (Stays old new) → call.Cuts file n result (disk_of old past) (disk_of new (old ∷ past))
+  cuts_either file n (Ok x) (Ok y) same ok err = cuts file n ok
+  cuts_either file n (Err x) (Err y) same ok err = record { done = tt; part = unchanged_noted file (call.Cut n) old new past err (λ image. inl refl) }
+  cuts_either file n (Ok x) (Err y) same ok err = absurd cc
+  cuts_either file n (Err x) (Ok y) same ok err = absurd cc
+
+  pub adopts_either : {E : Type 0} (file : ℕ) (blocks : List Block) (done : Result (Unit {0}) E) (result : Result (Unit {0}) Failed) → is_err result ≡ is_err done
+      → OnOk done (Becomes file (adopted blocks (held old file)) old new) → OnErr done (Stays old new) → call.Becomes file blocks result (disk_of old past) (disk_of new (old ∷ past))
+  adopts_either file blocks (Ok x) (Ok y) same ok err = adopts file blocks ok
+  adopts_either file blocks (Err x) (Err y) same ok err = record { done = tt; part = unchanged_noted file (call.Replaced blocks) old new past err (λ image. inl refl) }
+  adopts_either file blocks (Ok x) (Err y) same ok err = absurd cc
+  adopts_either file blocks (Err x) (Ok y) same ok err = absurd cc
+
   pub removes : (file : ℕ)
       → Becomes file (record { blocks = []; steps = ((held old file).blocks, Shorten 0) ∷ (held old file).steps }) old new
       → call.Removes file true (disk_of old past) (disk_of new (old ∷ past))
@@ -208,6 +242,37 @@ module _ (old new : State) (past : List State) where
     said = stays.said;
     time = stays_in_time old new past (λ said. said ≡ new.said.items) stays;
   }
+
+-- what is said, where the state was noted
+module _ (old new : State) (past : List State) (bytes : List ℕ) (files : (file : ℕ) → held new file ≡ held old file) where
+  abbrev Part : Type 0
+  Part = (n : ℕ) × (n ≤ length bytes) × (new.said.items ≡ old.said.items ++ take n bytes)
+
+  says : (result : Result (Unit {0}) Failed) → OnOk result (new.said.items ≡ old.said.items ++ bytes) → OnErr result Part → Part → Says bytes result (disk_of old past) (disk_of new (old ∷ past))
+  says result ok err heard = record {
+    done = ok;
+    part = err;
+    files = fun_ext (λ f. ap (λ (one : FileState). one.blocks) (files f));
+    images = record {
+      none_new = λ image left. λ f. leaves_as f (held new f) (held old f) (image f) (files f) (left f);
+      none_lost = λ image left. λ f. leaves_as f (held old f) (held new f) (image f) (sym (files f)) (left f);
+    };
+    time = elapses old new past (λ said. (n : ℕ) × (n ≤ length bytes) × (said ≡ old.said.items ++ take n bytes) × (length said ≤ length new.said.items))
+        (heard.0, heard.1, heard.2, omega arith);
+  }
+
+  none : new.said.items ≡ old.said.items → Part
+  none is = (0, omega arith, is ∙ sym (append-nil old.said.items))
+
+  all : new.said.items ≡ old.said.items ++ bytes → Part
+  all is = (length bytes, omega arith, is ∙ ap (λ (xs : List ℕ). old.said.items ++ xs) (sym (take_all (length bytes) bytes (omega arith))))
+
+  pub says_either : {E : Type 0} (done : Result (Unit {0}) E) (result : Result (Unit {0}) Failed) → is_err result ≡ is_err done
+      → OnOk done (new.said.items ≡ old.said.items ++ bytes) → OnErr done (new.said.items ≡ old.said.items) → Says bytes result (disk_of old past) (disk_of new (old ∷ past))
+  says_either (Ok x) (Ok y) same ok err = says (Ok y) ok tt (all ok)
+  says_either (Err x) (Err y) same ok err = says (Err y) tt (none err) (none err)
+  says_either (Ok x) (Err y) same ok err = absurd cc
+  says_either (Err x) (Ok y) same ok err = absurd cc
 
 pub syncs_not : (state : State) (past : List State) (file : ℕ) → call.Syncs {T = Unit {0}} file (Err (record {})) (disk_of state past) (disk_of state past)
 syncs_not state past file = record {

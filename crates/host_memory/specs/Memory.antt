@@ -7,7 +7,7 @@ use Rattle.block_host.specs.declared.failed.Failed.{Failed}
 use Rattle.block_host.specs.Disk.{Image, Disk, Lawful, risen}
 use Rattle.host_memory.specs.Pending.{FileState, Leaves, Noted}
 use Rattle.host_memory.specs.Faults.{is_due, listed_of, Numbered, numbered}
-use Rattle.host_memory.specs.Held.{held, Stays}
+use Rattle.host_memory.specs.Held.{held, Becomes, Stays}
 use Rattle.host_memory.specs.Since.{Since, Since-below, Since-earlier}
 use Rattle.host_memory.specs.declared.state.State.{State}
 use Rattle.host_memory.specs.declared.fresh.MemoryFresh.{MemoryFresh}
@@ -105,6 +105,10 @@ pub record Untouched (old new : MemoryHost) : Type 0 where
 -- nothing of the files, of what a crash leaves of them, and of the bytes said changed
 abbrev pub Unmoved : MemoryHost → MemoryHost → Type 0
 Unmoved old new = Stays old.state new.state
+
+-- one file became this, with what is pending of it; the others, and what was said, stay
+abbrev pub Became : ℕ → FileState → MemoryHost → MemoryHost → Type 0
+Became file after old new = Becomes file after old.state new.state
 
 -- one more of the host's calls was made
 abbrev pub Counted : MemoryHost → MemoryHost → Type 0

@@ -1,5 +1,5 @@
 -- What a crash may leave of a file whose changes no sync has made sure of.
-use Rattle.std.specs.Prelude.{◌≡◌, ◌⊎◌, ◌-◌, ℕ, List, [], ◌∷◌, ◌++◌, length, take, drop, replicate, Bool, nat_lt, ◌&&◌}
+use Rattle.std.specs.Prelude.{◌≡◌, ◌⊎◌, ◌-◌, ℕ, List, [], ◌∷◌, ◌++◌, length, take, drop, replicate, slice_set, Bool, nat_lt, ◌&&◌}
 use Rattle.block_host.specs.declared.block.Block.{Block}
 use Rattle.block_host.specs.Sealed.{zero_block}
 use Rattle.block_host.specs.Calls.{block_at, with_slot, Written, Put, Cut, Replaced}
@@ -65,3 +65,26 @@ no_file = record { blocks = []; steps = [] }
 -- a file above this number that has blocks
 abbrev pub qualifies : ℕ → ℕ × FileState → Bool
 qualifies after entry = nat_lt after entry.0 && nat_lt 0 (length entry.1.blocks)
+
+-- the file after each change, which is noted: blocks at its end, a slot of the meta file, its first blocks, another file in its place
+abbrev pub appended : List Block → FileState → FileState
+appended blocks file = record { blocks = file.blocks ++ blocks; steps = (file.blocks, Append (length file.blocks)) ∷ file.steps }
+
+abbrev pub slot_written : ℕ → Block → FileState → FileState
+slot_written slot block file = record { blocks = with_slot slot block file.blocks; steps = (file.blocks, Slot slot) ∷ file.steps }
+
+abbrev pub cut_to : ℕ → FileState → FileState
+cut_to n file = record { blocks = take n file.blocks; steps = (file.blocks, Shorten n) ∷ file.steps }
+
+abbrev pub emptied : FileState → FileState
+emptied file = record { blocks = []; steps = (file.blocks, Shorten 0) ∷ file.steps }
+
+abbrev pub adopted : List Block → FileState → FileState
+adopted blocks file = record { blocks = blocks; steps = (file.blocks, Adopt) ∷ file.steps }
+
+-- the file after a sync, and with a block zeroed: nothing is pending
+abbrev pub made_sure : FileState → FileState
+made_sure file = record { blocks = file.blocks; steps = [] }
+
+abbrev pub zeroed_at : ℕ → FileState → FileState
+zeroed_at at file = record { blocks = slice_set file.blocks at zero_block; steps = [] }

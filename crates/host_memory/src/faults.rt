@@ -1,10 +1,11 @@
-ghost use Rattle.std.specs.Prelude.{◌≡◌, ◌+◌, ◌-◌, ◌^◌, ◌≤◌, min, nat_lt, not, if◌then◌else◌};
+ghost use Rattle.std.specs.Prelude.{◌≡◌, ◌+◌, ◌-◌, ◌^◌, ◌≤◌, min, nat_lt, not, if◌then◌else◌, OnOk, OnErr};
 ghost use Rattle.std.specs.Result.{is_err};
 ghost use Rattle.std.specs.List.{list_any};
 ghost use Rattle.std.specs.Prelude.{◌==◌};
 ghost use Rattle.block_host.specs.Disk.{risen};
 
 use block_host::Failed;
+use std::alloc::AllocError;
 use std::sync::Arc;
 
 /// Which calls of an object are to fail, and how many failed. Calls are numbered from 1.
@@ -104,6 +105,26 @@ impl Faults {
         self.short = self.short.saturating_add(1);
         self.count = self.count.saturating_add(1);
         Failed
+    }
+
+    /// Counts a failure for want of memory, where this is one.
+    pub(crate) fn outcome(&mut self, done: Result<(), AllocError>) -> Result<(), Failed>
+        ensures same { is_err result ≡ is_err done }
+        ensures ok { OnOk result (self.new ≡ self.old) }
+        ensures err { OnErr result (self.new ≡ record self.old { count = risen self.old.count; short = risen self.old.short }) }
+        ensures counts { self.old.count ≤ self.new.count }
+    {
+        match done {
+            Ok(()) => Ok(()),
+            Err(_) => Err(self.run_short()),
+        }
+    }
+
+    /// Counts a want of memory that is no fault.
+    pub(crate) fn lack(&mut self)
+        ensures { self.new ≡ record self.old { short = risen self.old.short } }
+    {
+        self.short = self.short.saturating_add(1);
     }
 
     /// Takes over the counts of an object that is given back.

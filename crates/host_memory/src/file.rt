@@ -1,8 +1,9 @@
-ghost use Rattle.std.specs.Prelude.{◌≡◌, ◌<◌, ◌++◌, [], ◌∷◌, length, take, slice_set, IfOk, OnOk, OnErr};
+ghost use Rattle.std.specs.Prelude.{◌≡◌, ◌<◌, ◌++◌, [], ◌∷◌, length, IfOk, OnOk, OnErr};
+ghost use Rattle.std.specs.Arc.{arc_value};
 ghost use Rattle.block_host.specs.Sealed.{zero_block};
-ghost use Rattle.block_host.specs.Calls.{with_slot};
-ghost use Rattle.host_memory.specs.Pending.{FileState, oldest, torn_of, picked};
-ghost use Rattle.host_memory.specs.declared.change.Change.TheVariants.{Append, Slot, Shorten, Adopt};
+ghost use Rattle.host_memory.specs.Kept.{synced_of, shredded_of};
+ghost use Rattle.host_memory.specs.declared.change.Change.TheVariants.{Append};
+ghost use Rattle.host_memory.specs.Pending.{FileState, oldest, torn_of, tear, picked, appended, slot_written, cut_to, emptied, adopted, made_sure, zeroed_at};
 
 use crate::Pick;
 use crate::change::Change;
@@ -83,75 +84,67 @@ impl File {
 
     /// Puts blocks at the end of the file.
     pub(crate) fn append(&mut self, blocks: &[Block]) -> Result<(), AllocError>
-        ensures ok { OnOk result (self.new ≡ record { blocks = self.old.blocks ++ blocks.now; steps = (self.old.blocks, Append (length self.old.blocks)) ∷ self.old.steps }) }
+        ensures ok { OnOk result (self.new ≡ appended blocks.now self.old) }
         ensures err { OnErr result (self.new ≡ self.old) }
     {
         let at = self.blocks.len();
         let steps = self.steps.and_pair(&self.blocks, &Change::Append { at });
-        match &mut self.pending {
-            Some(pending) => self.blocks.append(blocks, &mut pending.torn, &self.zero)?,
-            None => {
-                let synced = self.blocks.share()?;
-                let mut torn = self.blocks.share()?;
-                self.blocks.append(blocks, &mut torn, &self.zero)?;
-                self.pending = Some(Pending { synced, torn });
-            }
-        }
+        grow(&mut self.blocks, &mut self.pending, blocks, &self.zero)?;
         self.steps = steps;
         Ok(())
+    }
+
+    // The file after a change: with these blocks, and with these where all that is pending is torn.
+    fn changed(&self, change: Change, blocks: Blocks, torn: Blocks) -> Result<File, AllocError>
+        requires { torn ≡ tear change blocks (torn_of self.now.blocks self.now.steps) }
+        ensures { IfOk result (λ file. file ≡ record { blocks = blocks; steps = (self.now.blocks, change) ∷ self.now.steps }) }
+    {
+        Ok(File {
+            zero: Arc::try_clone(&self.zero)?,
+            pending: Some(Pending {
+                synced: self.synced().share()?,
+                torn,
+            }),
+            steps: self.steps.and_pair(&self.blocks, &change),
+            blocks,
+        })
     }
 
     /// The meta file with a slot written.
     pub(crate) fn written(&self, slot: u64, block: &Block) -> Result<File, AllocError>
         requires { slot < 2 }
-        ensures { IfOk result (λ file. file ≡ record { blocks = with_slot slot block.now self.now.blocks; steps = (self.now.blocks, Slot slot) ∷ self.now.steps }) }
+        ensures { IfOk result (λ file. file ≡ slot_written slot block.now self.now) }
     {
-        let next = self.blocks.with_slot(slot, block)?;
-        let torn = self.torn().with_slot(slot, &self.zero)?;
-        let synced = self.synced().share()?;
-        Ok(File {
-            steps: self.steps.and_pair(&self.blocks, &Change::Slot { slot }),
-            blocks: next,
-            pending: Some(Pending { synced, torn }),
-            zero: Arc::try_clone(&self.zero)?,
-        })
+        self.changed(
+            Change::Slot { slot },
+            self.blocks.with_slot(slot, block)?,
+            self.torn().with_slot(slot, &self.zero)?,
+        )
     }
 
     /// The first blocks of the file.
     pub(crate) fn shortened(&self, blocks: u64) -> Result<File, AllocError>
-        ensures { IfOk result (λ file. file ≡ record { blocks = take blocks self.now.blocks; steps = (self.now.blocks, Shorten blocks) ∷ self.now.steps }) }
+        ensures { IfOk result (λ file. file ≡ cut_to blocks self.now) }
     {
-        let next = self.blocks.first(blocks)?;
-        let torn = self.torn().first(blocks)?;
-        let synced = self.synced().share()?;
-        Ok(File {
-            steps: self
-                .steps
-                .and_pair(&self.blocks, &Change::Shorten { blocks }),
-            blocks: next,
-            pending: Some(Pending { synced, torn }),
-            zero: Arc::try_clone(&self.zero)?,
-        })
+        self.changed(
+            Change::Shorten { blocks },
+            self.blocks.first(blocks)?,
+            self.torn().first(blocks)?,
+        )
     }
 
     /// Another file in the place of this one.
     pub(crate) fn replaced(&self, alloc: Global, blocks: &[Block]) -> Result<File, AllocError>
-        ensures { IfOk result (λ file. file ≡ record { blocks = blocks.now; steps = (self.now.blocks, Adopt) ∷ self.now.steps }) }
+        ensures { IfOk result (λ file. file ≡ adopted blocks.now self.now) }
     {
         let next = Blocks::of(alloc, blocks)?;
         let torn = next.share()?;
-        let synced = self.synced().share()?;
-        Ok(File {
-            steps: self.steps.and_pair(&self.blocks, &Change::Adopt),
-            blocks: next,
-            pending: Some(Pending { synced, torn }),
-            zero: Arc::try_clone(&self.zero)?,
-        })
+        self.changed(Change::Adopt, next, torn)
     }
 
     /// The file with a block zeroed, all of it on the disk.
     pub(crate) fn spoiled(&self, at: u64) -> Result<File, AllocError>
-        ensures { IfOk result (λ file. file ≡ record { blocks = slice_set self.now.blocks at zero_block; steps = [] }) }
+        ensures { IfOk result (λ file. file ≡ zeroed_at at self.now) }
     {
         Ok(File {
             blocks: self.blocks.replaced(at, &self.zero)?,
@@ -163,7 +156,7 @@ impl File {
 
     /// Takes all blocks away.
     pub(crate) fn remove(&mut self)
-        ensures { self.new ≡ record { blocks = []; steps = (self.old.blocks, Shorten 0) ∷ self.old.steps } }
+        ensures { self.new ≡ emptied self.old }
     {
         self.steps = self
             .steps
@@ -183,7 +176,7 @@ impl File {
 
     /// Makes sure of the file.
     pub(crate) fn settle(&mut self)
-        ensures { self.new ≡ record { blocks = self.old.blocks; steps = [] } }
+        ensures { self.new ≡ made_sure self.old }
     {
         self.pending = None;
         self.steps = Past::new();
@@ -201,5 +194,30 @@ impl File {
             }
         }
         self.steps = Past::new();
+    }
+}
+
+// Puts blocks at the end of a file's, and torn ones at the end of those that a crash may leave.
+fn grow(
+    blocks: &mut Blocks,
+    pending: &mut Option<Pending>,
+    more: &[Block],
+    zero: &Arc<Block>,
+) -> Result<(), AllocError>
+    requires { arc_value zero.now ≡ zero_block }
+    ensures added { OnOk result (blocks.new ≡ blocks.old ++ more.now) }
+    ensures synced { OnOk result (synced_of pending.new blocks.new ≡ synced_of pending.old blocks.old) }
+    ensures torn { OnOk result (shredded_of pending.new blocks.new ≡ tear (Append (length blocks.old)) blocks.new (shredded_of pending.old blocks.old)) }
+    ensures err { OnErr result ((blocks.new ≡ blocks.old) × (pending.new ≡ pending.old)) }
+{
+    match pending {
+        Some(pending) => blocks.append(more, &mut pending.torn, zero),
+        None => {
+            let synced = blocks.share()?;
+            let mut torn = blocks.share()?;
+            blocks.append(more, &mut torn, zero)?;
+            *pending = Some(Pending { synced, torn });
+            Ok(())
+        }
     }
 }

@@ -12,7 +12,7 @@ mod state;
 mod view;
 
 pub use fresh::MemoryFresh;
-pub use memory_host::MemoryHost;
+pub use memory_host::{MemoryHost, fresh_is_send, host_is_send, view_is_send};
 pub use pick::Pick;
 pub use view::MemoryView;
 

@@ -1,4 +1,6 @@
-ghost use Rattle.std.specs.Prelude.{◌≢◌, ◌<◌, ◌-◌, ◌^◌, ◌⊎◌, slice_get, slice_set, option_copied, OnOk, OnErr, ◌≡◌, ◌≤◌, ◌∷◌, true, ℕ, [], unwrap_or, IfOk};
+ghost use Rattle.std.specs.Prelude.{◌≢◌, ◌<◌, ◌⊎◌, slice_get, option_copied, OnOk, OnErr, ◌≡◌, ◌≤◌, ◌∷◌, true, ℕ, [], unwrap_or, IfOk};
+ghost use Rattle.host_memory.specs.Held.{held, Becomes as StateBecomes, Stays};
+ghost use Rattle.host_memory.specs.Pending.{no_file, appended, slot_written, cut_to, emptied, adopted, made_sure, zeroed_at};
 ghost use Rattle.host_memory.specs.Faults.{listed_of, numbered, only_listed};
 
 use crate::faults::Faults;
@@ -27,7 +29,7 @@ impl MemoryHost {
     ghost use Rattle.block_host.specs.declared.block.Block.{Block};
     ghost use Rattle.host_memory.specs.Formatted.{first_slot, first_header};
     ghost use Rattle.host_memory.specs.Pending.{picked};
-    ghost use Rattle.host_memory.specs.Memory.{memory_disk, memory_faults, memory_short, memory_file, memory_plan, memory_greatest, no_plan, HasRunShort, Untouched};
+    ghost use Rattle.host_memory.specs.Memory.{memory_disk, memory_faults, memory_short, memory_file, memory_plan, memory_greatest, no_plan, HasRunShort, Untouched, Unmoved, Became};
 
     /// A host without files that has said nothing and not failed.
     pub fn empty(alloc: Global) -> Result<MemoryHost, AllocError>
@@ -151,21 +153,18 @@ impl MemoryHost {
 
     /// Zeroes a block of a file, all of which is on the disk then; or raises `short` and changes nothing else.
     pub fn spoil(&mut self, file: u64, at: u64)
-        ensures spoiled { memory_short self.new ≡ memory_short self.old → memory_short self.old < 2 ^ 64 - 1 → memory_file self.new file ≡ record { blocks = slice_set (memory_file self.old file).blocks at zero_block; steps = [] } }
+        ensures done { ((memory_short self.new ≡ memory_short self.old) × Became file (zeroed_at at (memory_file self.old file)) self.old self.new) ⊎ (HasRunShort self.old self.new × Unmoved self.old self.new) }
         ensures others { (other : ℕ) → other ≢ file → memory_file self.new other ≡ memory_file self.old other }
         ensures said { (memory_disk self.new).said ≡ (memory_disk self.old).said }
         ensures clock { (memory_disk self.old).moment ≤ (memory_disk self.new).moment }
         ensures time { Elapses (λ said. said ≡ (memory_disk self.new).said) (memory_disk self.old) (memory_disk self.new) }
-        ensures counts { ((memory_short self.new ≡ memory_short self.old) × (memory_faults self.new ≡ memory_faults self.old)) ⊎ (HasRunShort self.old self.new × (memory_file self.new file ≡ memory_file self.old file)) }
+        ensures faults { memory_faults self.new ≡ memory_faults self.old }
         ensures plan { memory_plan self.new ≡ memory_plan self.old }
         ensures greatest { memory_greatest self.new ≡ memory_greatest self.old }
     {
-        let past = self.past.and(&self.state);
-        match self.state.spoil(self.alloc, file, at) {
-            Ok(()) => self.past = past,
-            Err(_) => {
-                let Failed = self.own.run_short();
-            }
+        self.past = self.past.and(&self.state);
+        if self.state.spoil(self.alloc, file, at).is_err() {
+            self.own.lack();
         }
     }
 
@@ -195,11 +194,12 @@ impl Host for MemoryHost {
     type Fresh = MemoryFresh;
 
     ghost use Rattle.std.proofs.Common.{refl};
-    ghost use Rattle.std.specs.Prelude.{◌≡◌, ◌+◌, ◌-◌, ◌^◌, ◌<◌, ◌≤◌, ◌⊎◌, [], min, max, not, true, IsTrue, IsErr, IfOk, OnOk, OnErr, unwrap_or, length};
+    ghost use Rattle.std.specs.Prelude.{◌≡◌, ◌+◌, ◌-◌, ◌^◌, ◌<◌, ◌≤◌, ◌⊎◌, [], min, max, not, nat_lt, is_err, if◌then◌else◌, true, ℕ, IsTrue, IsErr, IfOk, IfSome, OnOk, OnErr, unwrap_or, length};
+    ghost use Rattle.std.specs.Bool.{OnTrue, OnFalse};
     ghost use Rattle.block_host.specs.Disk.{Says, risen};
     ghost use Rattle.block_host.specs.Calls.{Reads, Appends, Puts, Cuts, Becomes, Removes, Syncs, NextFile, block_at};
     ghost use Rattle.host_memory.specs.Faults.{only_listed};
-    ghost use Rattle.host_memory.specs.Memory.{memory_disk, memory_faults, memory_due, memory_short, memory_lawful, memory_plan, HasRunShort, Unmoved, Counted, Tried, view_plan, view_short, fresh_plan, fresh_short};
+    ghost use Rattle.host_memory.specs.Memory.{memory_disk, memory_faults, memory_due, memory_short, memory_lawful, memory_file, memory_plan, HasRunShort, Unmoved, Became, Counted, Tried, view_plan, view_short, fresh_plan, fresh_short};
 
     ghost tells = { true };
 
@@ -223,9 +223,10 @@ impl Host for MemoryHost {
         ensures failed { OnErr result (risen (memory_faults self.old) ≤ memory_faults self.new) }
         ensures untroubled { OnOk result (memory_faults self.new ≡ memory_faults self.old) }
         ensures greatest { self.new.greatest ≡ self.old.greatest }
-        ensures due { IsTrue (memory_due self.old) → IsErr result }
-        ensures cause { OnErr result (IsTrue (memory_due self.old) ⊎ HasRunShort self.old self.new) }
+        ensures due { is_err result ≡ memory_due self.old }
+        ensures short { memory_short self.new ≡ memory_short self.old }
         ensures tried { Tried result self.old self.new }
+        ensures unmoved { Unmoved self.old self.new }
     {
         self.own.admit()?;
         Ok(self.state.size(file))
@@ -239,9 +240,10 @@ impl Host for MemoryHost {
         ensures failed { OnErr result (risen (memory_faults self.old) ≤ memory_faults self.new) }
         ensures untroubled { OnOk result (memory_faults self.new ≡ memory_faults self.old) }
         ensures greatest { self.new.greatest ≡ self.old.greatest }
-        ensures due { IsTrue (memory_due self.old) → IsErr result }
-        ensures cause { OnErr result (IsTrue (memory_due self.old) ⊎ HasRunShort self.old self.new) }
+        ensures due { is_err result ≡ memory_due self.old }
+        ensures short { memory_short self.new ≡ memory_short self.old }
         ensures tried { Tried result self.old self.new }
+        ensures unmoved { Unmoved self.old self.new }
     {
         self.own.admit()?;
         *out = self.state.at(file, at);
@@ -258,15 +260,13 @@ impl Host for MemoryHost {
         ensures due { IsTrue (memory_due self.old) → IsErr result }
         ensures cause { OnErr result (IsTrue (memory_due self.old) ⊎ HasRunShort self.old self.new) }
         ensures tried { Tried result self.old self.new }
+        ensures file { OnOk result (Became file (appended blocks.now (memory_file self.old file)) self.old self.new) }
         ensures nothing { OnErr result (Unmoved self.old self.new) }
     {
         self.own.admit()?;
-        let past = self.past.and(&self.state);
-        if self.state.append(self.alloc, file, blocks).is_err() {
-            return Err(self.own.run_short());
-        }
-        self.past = past;
-        Ok(())
+        self.past = self.past.and(&self.state);
+        let done = self.state.append(self.alloc, file, blocks);
+        self.own.outcome(done)
     }
 
     fn put(&mut self, slot: u64, block: &Block) -> Result<(), Failed>
@@ -280,15 +280,13 @@ impl Host for MemoryHost {
         ensures due { IsTrue (memory_due self.old) → IsErr result }
         ensures cause { OnErr result (IsTrue (memory_due self.old) ⊎ HasRunShort self.old self.new) }
         ensures tried { Tried result self.old self.new }
+        ensures file { OnOk result (Became 0 (slot_written slot block.now (memory_file self.old 0)) self.old self.new) }
         ensures nothing { OnErr result (Unmoved self.old self.new) }
     {
         self.own.admit()?;
-        let past = self.past.and(&self.state);
-        if self.state.put(self.alloc, slot, block).is_err() {
-            return Err(self.own.run_short());
-        }
-        self.past = past;
-        Ok(())
+        self.past = self.past.and(&self.state);
+        let done = self.state.put(self.alloc, slot, block);
+        self.own.outcome(done)
     }
 
     fn cut(&mut self, file: u64, blocks: u64) -> Result<(), Failed>
@@ -301,15 +299,13 @@ impl Host for MemoryHost {
         ensures due { IsTrue (memory_due self.old) → IsErr result }
         ensures cause { OnErr result (IsTrue (memory_due self.old) ⊎ HasRunShort self.old self.new) }
         ensures tried { Tried result self.old self.new }
+        ensures file { OnOk result (Became file (cut_to blocks (memory_file self.old file)) self.old self.new) }
         ensures nothing { OnErr result (Unmoved self.old self.new) }
     {
         self.own.admit()?;
-        let past = self.past.and(&self.state);
-        if self.state.cut(self.alloc, file, blocks).is_err() {
-            return Err(self.own.run_short());
-        }
-        self.past = past;
-        Ok(())
+        self.past = self.past.and(&self.state);
+        let done = self.state.cut(self.alloc, file, blocks);
+        self.own.outcome(done)
     }
 
     fn sync(&mut self, file: u64) -> Result<(), Failed>
@@ -319,9 +315,10 @@ impl Host for MemoryHost {
         ensures failed { OnErr result (risen (memory_faults self.old) ≤ memory_faults self.new) }
         ensures untroubled { OnOk result (memory_faults self.new ≡ memory_faults self.old) }
         ensures greatest { self.new.greatest ≡ self.old.greatest }
-        ensures due { IsTrue (memory_due self.old) → IsErr result }
-        ensures cause { OnErr result (IsTrue (memory_due self.old) ⊎ HasRunShort self.old self.new) }
+        ensures due { is_err result ≡ memory_due self.old }
+        ensures short { memory_short self.new ≡ memory_short self.old }
         ensures tried { Tried result self.old self.new }
+        ensures file { OnOk result (Became file (made_sure (memory_file self.old file)) self.old self.new) }
         ensures nothing { OnErr result (Unmoved self.old self.new) }
     {
         self.own.admit()?;
@@ -333,14 +330,16 @@ impl Host for MemoryHost {
     fn next_file(&mut self, after: u64) -> Result<Option<u64>, Failed>
         ensures told { IsTrue true → Reads (memory_disk self.old) (memory_disk self.new) }
         ensures next { IsTrue true → IfOk result (NextFile after (memory_disk self.old).files) }
+        ensures above { IfOk result (λ next. IfSome next (λ file. after < file)) }
         ensures clock { (memory_disk self.old).moment ≤ (memory_disk self.new).moment }
         ensures counts { memory_faults self.old ≤ memory_faults self.new }
         ensures failed { OnErr result (risen (memory_faults self.old) ≤ memory_faults self.new) }
         ensures untroubled { OnOk result (memory_faults self.new ≡ memory_faults self.old) }
         ensures greatest { self.new.greatest ≡ self.old.greatest }
-        ensures due { IsTrue (memory_due self.old) → IsErr result }
-        ensures cause { OnErr result (IsTrue (memory_due self.old) ⊎ HasRunShort self.old self.new) }
+        ensures due { is_err result ≡ memory_due self.old }
+        ensures short { memory_short self.new ≡ memory_short self.old }
         ensures tried { Tried result self.old self.new }
+        ensures unmoved { Unmoved self.old self.new }
     {
         self.own.admit()?;
         Ok(self.state.next(after))
@@ -352,6 +351,8 @@ impl Host for MemoryHost {
         ensures untroubled { memory_faults self.new ≡ memory_faults self.old }
         ensures greatest { self.new.greatest ≡ self.old.greatest }
         ensures due { result ≡ not (memory_due self.old) }
+        ensures file { OnTrue result (Became file (emptied (memory_file self.old file)) self.old self.new ⊎ ((memory_file self.old file ≡ no_file) × Unmoved self.old self.new)) }
+        ensures nothing { OnFalse result (Unmoved self.old self.new) }
         ensures counted { Counted self.old self.new }
         ensures short { memory_short self.new ≡ memory_short self.old }
     {
@@ -378,6 +379,7 @@ impl Host for MemoryHost {
         ensures due { IsTrue (memory_due self.old) → IsErr result }
         ensures cause { OnErr result (IsTrue (memory_due self.old) ⊎ HasRunShort self.old self.new) }
         ensures tried { Tried result self.old self.new }
+        ensures unmoved { Unmoved self.old self.new }
     {
         self.own.admit()?;
         match self.view_of(file) {
@@ -400,6 +402,7 @@ impl Host for MemoryHost {
         ensures due { IsTrue (memory_due self.old) → IsErr result }
         ensures cause { OnErr result (IsTrue (memory_due self.old) ⊎ HasRunShort self.old self.new) }
         ensures tried { Tried result self.old self.new }
+        ensures unmoved { Unmoved self.old self.new }
     {
         self.own.admit()?;
         match self.state.share(self.alloc, file) {
@@ -419,6 +422,8 @@ impl Host for MemoryHost {
         ensures untroubled { ⟦<MemoryView as block_host::View>⟧.faults view ≡ 0 → memory_faults self.new ≡ memory_faults self.old }
         ensures greatest { self.new.greatest ≡ self.old.greatest }
         ensures short { memory_short self.new ≡ min (memory_short self.old + view_short view) (2 ^ 64 - 1) }
+        ensures faults { memory_faults self.new ≡ (if nat_lt 0 (⟦<MemoryView as block_host::View>⟧.faults view) then risen (memory_faults self.old) else memory_faults self.old) }
+        ensures unmoved { Unmoved self.old self.new }
         ensures plan { memory_plan self.new ≡ memory_plan self.old }
     {
         self.own.absorb(view.own());
@@ -430,8 +435,10 @@ impl Host for MemoryHost {
         ensures counts { memory_faults self.old ≤ memory_faults self.new }
         ensures failed { 1 ≤ ⟦<MemoryFresh as block_host::Fresh>⟧.faults fresh → risen (memory_faults self.old) ≤ memory_faults self.new }
         ensures untroubled { ⟦<MemoryFresh as block_host::Fresh>⟧.faults fresh ≡ 0 → memory_faults self.new ≡ memory_faults self.old }
-        ensures greatest { IsTrue true → self.new.greatest ≡ max (self.old.greatest) (length (⟦<MemoryFresh as block_host::Fresh>⟧.content fresh)) }
+        ensures greatest { self.new.greatest ≡ max (self.old.greatest) (⟦<MemoryFresh as block_host::Fresh>⟧.size fresh) }
         ensures short { memory_short self.new ≡ min (memory_short self.old + fresh_short fresh) (2 ^ 64 - 1) }
+        ensures faults { memory_faults self.new ≡ (if nat_lt 0 (⟦<MemoryFresh as block_host::Fresh>⟧.faults fresh) then risen (memory_faults self.old) else memory_faults self.old) }
+        ensures unmoved { Unmoved self.old self.new }
         ensures plan { memory_plan self.new ≡ memory_plan self.old }
     {
         self.own.absorb(fresh.own());
@@ -441,6 +448,7 @@ impl Host for MemoryHost {
     fn fresh(&mut self, file: u64) -> Result<MemoryFresh, Failed>
         ensures told { IsTrue true → Reads (memory_disk self.old) (memory_disk self.new) }
         ensures empty { IsTrue true → IfOk result (λ fresh. ⟦<MemoryFresh as block_host::Fresh>⟧.content fresh ≡ []) }
+        ensures no_blocks { IfOk result (λ fresh. ⟦<MemoryFresh as block_host::Fresh>⟧.size fresh ≡ 0) }
         ensures number { IfOk result (λ fresh. ⟦<MemoryFresh as block_host::Fresh>⟧.file fresh ≡ file) }
         ensures made { IfOk result (λ fresh. ⟦<MemoryFresh as block_host::Fresh>⟧.faults fresh ≡ 0) }
         ensures plan { IfOk result (λ fresh. fresh_plan fresh ≡ only_listed (memory_plan self.old).fresh) }
@@ -453,6 +461,7 @@ impl Host for MemoryHost {
         ensures due { IsTrue (memory_due self.old) → IsErr result }
         ensures cause { OnErr result (IsTrue (memory_due self.old) ⊎ HasRunShort self.old self.new) }
         ensures tried { Tried result self.old self.new }
+        ensures unmoved { Unmoved self.old self.new }
     {
         self.own.admit()?;
         match self.fresh_of(file) {
@@ -471,17 +480,13 @@ impl Host for MemoryHost {
         ensures due { IsTrue (memory_due self.old) → IsErr result }
         ensures cause { OnErr result (IsTrue (memory_due self.old) ⊎ HasRunShort self.old self.new) }
         ensures tried { Tried result self.old self.new }
+        ensures file { OnOk result (Became settled.file (adopted (unwrap_or settled.blocks []) (memory_file self.old settled.file)) self.old self.new) }
         ensures nothing { OnErr result (Unmoved self.old self.new) }
     {
         self.own.admit()?;
-        let past = self.past.and(&self.state);
-        let file = settled.file();
-        let blocks = blocks_of(self.alloc, settled);
-        if self.state.adopt(self.alloc, file, &blocks).is_err() {
-            return Err(self.own.run_short());
-        }
-        self.past = past;
-        Ok(())
+        self.past = self.past.and(&self.state);
+        let done = take_place(&mut self.state, self.alloc, settled);
+        self.own.outcome(done)
     }
 
     fn say(&mut self, bytes: &[u8]) -> Result<(), Failed>
@@ -494,15 +499,13 @@ impl Host for MemoryHost {
         ensures due { IsTrue (memory_due self.old) → IsErr result }
         ensures cause { OnErr result (IsTrue (memory_due self.old) ⊎ HasRunShort self.old self.new) }
         ensures tried { Tried result self.old self.new }
+        ensures files { (file : ℕ) → memory_file self.new file ≡ memory_file self.old file }
         ensures nothing { OnErr result (Unmoved self.old self.new) }
     {
         self.own.admit()?;
-        let noted = self.past.and(&self.state);
-        if self.state.say(bytes).is_err() {
-            return Err(self.own.run_short());
-        }
-        self.past = noted;
-        Ok(())
+        self.past = self.past.and(&self.state);
+        let done = self.state.say(bytes);
+        self.own.outcome(done)
     }
 
     fn faults(&self) -> u64 {
@@ -510,14 +513,33 @@ impl Host for MemoryHost {
     }
 }
 
-// The blocks of a settled file; none where they are not told.
-fn blocks_of(alloc: Global, settled: Settled) -> Vec<Block>
-    ensures { result.items ≡ unwrap_or settled.blocks [] }
+// Puts a settled file in the place of the file of its number; it has no blocks where they are not told.
+fn take_place(state: &mut State, alloc: Global, settled: Settled) -> Result<(), AllocError>
+    ensures ok { OnOk result (StateBecomes settled.file (adopted (unwrap_or settled.blocks []) (held state.old settled.file)) state.old state.new) }
+    ensures err { OnErr result (Stays state.old state.new) }
 {
+    let file = settled.file();
     match settled.blocks() {
-        Some(blocks) => blocks,
-        None => Vec::new(alloc),
+        Some(blocks) => state.adopt(alloc, file, &blocks),
+        None => state.adopt(alloc, file, &[]),
     }
+}
+
+fn is_send<T: Send>(_value: &T) {}
+
+/// The host can be sent to another thread.
+pub fn host_is_send(host: &MemoryHost) {
+    is_send(host);
+}
+
+/// A view of the host can be sent to another thread.
+pub fn view_is_send(view: &MemoryView) {
+    is_send(view);
+}
+
+/// A fresh file of the host can be sent to another thread.
+pub fn fresh_is_send(fresh: &MemoryFresh) {
+    is_send(fresh);
 }
 
 // The same list once more.

@@ -1,9 +1,7 @@
-ghost use Rattle.std.specs.Prelude.{◌≡◌, ◌<◌, ◌++◌, [], ◌∷◌, ℕ, length, take, slice_set, slice_get, option_copied, IfOk, OnOk, OnErr};
-ghost use Rattle.block_host.specs.Sealed.{zero_block};
+ghost use Rattle.std.specs.Prelude.{◌≡◌, ◌<◌, ◌++◌, [], ℕ, length, slice_get, option_copied, IfOk, OnOk, OnErr};
 ghost use Rattle.std.specs.Bool.{OnTrue, OnFalse};
-ghost use Rattle.host_memory.specs.Pending.{no_file, picked};
-ghost use Rattle.block_host.specs.Calls.{block_at, with_slot, NextFile};
-ghost use Rattle.host_memory.specs.declared.change.Change.TheVariants.{Append, Slot, Shorten, Adopt};
+ghost use Rattle.host_memory.specs.Pending.{no_file, picked, appended, slot_written, cut_to, emptied, adopted, made_sure, zeroed_at};
+ghost use Rattle.block_host.specs.Calls.{block_at, NextFile};
 ghost use Rattle.host_memory.specs.Held.{held, Becomes, Stays};
 ghost use Rattle.std.specs.Prelude.{option_map};
 ghost use Rattle.std.specs.List.{find};
@@ -53,7 +51,7 @@ impl State {
         number: u64,
         blocks: &[Block],
     ) -> Result<(), AllocError>
-        ensures ok { OnOk result (Becomes number (record { blocks = (held self.old number).blocks ++ blocks.now; steps = ((held self.old number).blocks, Append (length (held self.old number).blocks)) ∷ (held self.old number).steps }) self.old self.new) }
+        ensures ok { OnOk result (Becomes number (appended blocks.now (held self.old number)) self.old self.new) }
         ensures err { OnErr result (Stays self.old self.new) }
     {
         if let Some(file) = self.files.get_mut(&number) {
@@ -67,7 +65,7 @@ impl State {
     /// A slot of the meta file.
     pub(crate) fn put(&mut self, alloc: Global, slot: u64, block: &Block) -> Result<(), AllocError>
         requires { slot < 2 }
-        ensures ok { OnOk result (Becomes 0 (record { blocks = with_slot slot block.now (held self.old 0).blocks; steps = ((held self.old 0).blocks, Slot slot) ∷ (held self.old 0).steps }) self.old self.new) }
+        ensures ok { OnOk result (Becomes 0 (slot_written slot block.now (held self.old 0)) self.old self.new) }
         ensures err { OnErr result (Stays self.old self.new) }
     {
         let next = match self.files.get(&0) {
@@ -79,7 +77,7 @@ impl State {
 
     /// A file cut to this many blocks.
     pub(crate) fn cut(&mut self, alloc: Global, number: u64, blocks: u64) -> Result<(), AllocError>
-        ensures ok { OnOk result (Becomes number (record { blocks = take blocks (held self.old number).blocks; steps = ((held self.old number).blocks, Shorten blocks) ∷ (held self.old number).steps }) self.old self.new) }
+        ensures ok { OnOk result (Becomes number (cut_to blocks (held self.old number)) self.old self.new) }
         ensures err { OnErr result (Stays self.old self.new) }
     {
         let next = match self.files.get(&number) {
@@ -96,7 +94,7 @@ impl State {
         number: u64,
         blocks: &[Block],
     ) -> Result<(), AllocError>
-        ensures ok { OnOk result (Becomes number (record { blocks = blocks.now; steps = ((held self.old number).blocks, Adopt) ∷ (held self.old number).steps }) self.old self.new) }
+        ensures ok { OnOk result (Becomes number (adopted blocks.now (held self.old number)) self.old self.new) }
         ensures err { OnErr result (Stays self.old self.new) }
     {
         let next = match self.files.get(&number) {
@@ -108,7 +106,7 @@ impl State {
 
     /// Takes all blocks of a file away. It answers whether there was one.
     pub(crate) fn remove(&mut self, number: u64) -> bool
-        ensures removed { OnTrue result (Becomes number (record { blocks = []; steps = ((held self.old number).blocks, Shorten 0) ∷ (held self.old number).steps }) self.old self.new) }
+        ensures removed { OnTrue result (Becomes number (emptied (held self.old number)) self.old self.new) }
         ensures absent { OnFalse result (Stays self.old self.new × (held self.old number ≡ no_file)) }
     {
         match self.files.get_mut(&number) {
@@ -122,7 +120,7 @@ impl State {
 
     /// A block of a file zeroed, and all of the file on the disk.
     pub(crate) fn spoil(&mut self, alloc: Global, number: u64, at: u64) -> Result<(), AllocError>
-        ensures ok { OnOk result (Becomes number (record { blocks = slice_set (held self.old number).blocks at zero_block; steps = [] }) self.old self.new) }
+        ensures ok { OnOk result (Becomes number (zeroed_at at (held self.old number)) self.old self.new) }
         ensures err { OnErr result (Stays self.old self.new) }
     {
         let next = match self.files.get(&number) {
@@ -199,7 +197,7 @@ impl State {
 
     /// Makes sure of a file.
     pub(crate) fn sync(&mut self, number: u64)
-        ensures { Becomes number (record { blocks = (held self.old number).blocks; steps = [] }) self.old self.new }
+        ensures { Becomes number (made_sure (held self.old number)) self.old self.new }
     {
         if let Some(file) = self.files.get_mut(&number) {
             file.settle();

@@ -34,7 +34,7 @@ impl MemoryView {
 }
 
 impl View for MemoryView {
-    ghost use Rattle.std.specs.Prelude.{◌≡◌, ◌≤◌, true, IsTrue, OnOk, OnErr};
+    ghost use Rattle.std.specs.Prelude.{◌≡◌, ◌≤◌, if◌then◌else◌, true, IsTrue, OnOk, OnErr};
     ghost use Rattle.std.specs.Result.{is_err};
     ghost use Rattle.block_host.specs.Disk.{risen};
     ghost use Rattle.block_host.specs.Calls.{block_at};
@@ -57,6 +57,7 @@ impl View for MemoryView {
         ensures counts { ⟦<MemoryView as block_host::View>⟧.faults self.old ≤ ⟦<MemoryView as block_host::View>⟧.faults self.new }
         ensures failed { OnErr result (risen (⟦<MemoryView as block_host::View>⟧.faults self.old) ≤ ⟦<MemoryView as block_host::View>⟧.faults self.new) }
         ensures untroubled { OnOk result (⟦<MemoryView as block_host::View>⟧.faults self.new ≡ ⟦<MemoryView as block_host::View>⟧.faults self.old) }
+        ensures faults { ⟦<MemoryView as block_host::View>⟧.faults self.new ≡ (if is_err result then risen (⟦<MemoryView as block_host::View>⟧.faults self.old) else ⟦<MemoryView as block_host::View>⟧.faults self.old) }
         ensures due { is_err result ≡ view_due self.old }
         ensures counted { view_plan self.new ≡ once_more (view_plan self.old) }
         ensures short { view_short self.new ≡ view_short self.old }

@@ -1,6 +1,5 @@
-use Rattle.std.proofs.Common.{sym, ◌∙◌}
 use Rattle.std.proofs.lemmas.Result.{err_from_is_err_and}
-use Rattle.host_memory.proofs.Told.{stays, appends, appends_not, given_err, given_ok}
+use Rattle.host_memory.proofs.Told.{stays, appends_not, appends_either}
 use Rattle.host_memory.proofs.memory_host.MemoryHostHost.append.Goals as goal
 
 pub returns-in_err-admit-clause-told : goal.returns-in_err-admit-clause-told
@@ -8,10 +7,6 @@ returns-in_err-admit-clause-told c told = let state = c.args.self.now.state in
     let failed = err_from_is_err_and c.from_residual.result c.from_residual.ensures.1 in
     rw (failed.1, failed.2) (appends_not state state c.args.self.now.past.items c.args.file c.args.blocks.now (stays state))
 
-pub returns-then-is_err-clause-told : goal.returns-then-is_err-clause-told
-returns-then-is_err-clause-told c told =
-    appends_not c.args.self.now.state c.append.new.self c.args.self.now.past.items c.args.file c.args.blocks.now (given_err c.append.result (sym c.is_err.ensures.value ∙ c.if-is_err.true) c.append.ensures.err)
-
 pub returns-clause-told : goal.returns-clause-told
 returns-clause-told c told =
-    rw c.and-past.ensures (appends c.args.self.now.state c.append.new.self c.args.self.now.past.items c.args.file c.args.blocks.now (given_ok c.append.result (sym c.is_err.ensures.value ∙ c.if-is_err.false) c.append.ensures.ok))
+    rw c.and-self.ensures (appends_either c.args.self.now.state c.append-done.new.self c.args.self.now.past.items c.args.file c.args.blocks.now c.append-done.result c.outcome.result c.outcome.ensures.same c.append-done.ensures.ok c.append-done.ensures.err)

@@ -1,6 +1,5 @@
-use Rattle.std.proofs.Common.{sym, ◌∙◌}
 use Rattle.std.proofs.lemmas.Result.{err_from_is_err_and}
-use Rattle.host_memory.proofs.Told.{stays, puts, puts_not, given_err, given_ok}
+use Rattle.host_memory.proofs.Told.{stays, puts_not, puts_either}
 use Rattle.host_memory.proofs.memory_host.MemoryHostHost.put.Goals as goal
 
 pub returns-in_err-admit-clause-told : goal.returns-in_err-admit-clause-told
@@ -8,10 +7,6 @@ returns-in_err-admit-clause-told c told = let state = c.args.self.now.state in
     let failed = err_from_is_err_and c.from_residual.result c.from_residual.ensures.1 in
     rw (failed.1, failed.2) (puts_not state state c.args.self.now.past.items c.args.slot c.args.block.now (stays state))
 
-pub returns-then-is_err-clause-told : goal.returns-then-is_err-clause-told
-returns-then-is_err-clause-told c told =
-    puts_not c.args.self.now.state c.put.new.self c.args.self.now.past.items c.args.slot c.args.block.now (given_err c.put.result (sym c.is_err.ensures.value ∙ c.if-is_err.true) c.put.ensures.err)
-
 pub returns-clause-told : goal.returns-clause-told
 returns-clause-told c told =
-    rw c.and-past.ensures (puts c.args.self.now.state c.put.new.self c.args.self.now.past.items c.args.slot c.args.block.now c.requires (given_ok c.put.result (sym c.is_err.ensures.value ∙ c.if-is_err.false) c.put.ensures.ok))
+    rw c.and-self.ensures (puts_either c.args.self.now.state c.put-done.new.self c.args.self.now.past.items c.args.slot c.args.block.now c.put-done.result c.outcome.result c.requires c.outcome.ensures.same c.put-done.ensures.ok c.put-done.ensures.err)
