@@ -76,11 +76,11 @@ fn in_two<R: Threads + Wait + Sync>(
         rt,
         &mut ||
             requires { IsPassOf turnstile.now a.now × IsOutside a.now }
-            ensures { IsPassOf turnstile.now a.exit.now × IsOutside a.exit.now × (shares_of a.exit.now ≡ shares_of a.entry.now) }
+            ensures { IsPassOf turnstile.entry.now a.exit.now × IsOutside a.exit.now × (shares_of a.exit.now ≡ shares_of a.entry.now) }
         { work(rt, turnstile, a) },
         &mut ||
             requires { IsPassOf turnstile.now b.now × IsOutside b.now }
-            ensures { IsPassOf turnstile.now b.exit.now × IsOutside b.exit.now × (shares_of b.exit.now ≡ shares_of b.entry.now) }
+            ensures { IsPassOf turnstile.entry.now b.exit.now × IsOutside b.exit.now × (shares_of b.exit.now ≡ shares_of b.entry.now) }
         { work(rt, turnstile, b) },
     );
 }
@@ -103,11 +103,11 @@ fn in_four<R: Threads + Wait + Sync>(
         rt,
         &mut ||
             requires { IsSync R.row × IsPassOf turnstile.now a.now × IsPassOf turnstile.now b.now × IsOutside a.now × IsOutside b.now }
-            ensures { IsPassOf turnstile.now a.exit.now × IsPassOf turnstile.now b.exit.now × IsOutside a.exit.now × IsOutside b.exit.now × (shares_of a.exit.now ≡ shares_of a.entry.now) × (shares_of b.exit.now ≡ shares_of b.entry.now) }
+            ensures { IsPassOf turnstile.entry.now a.exit.now × IsPassOf turnstile.entry.now b.exit.now × IsOutside a.exit.now × IsOutside b.exit.now × (shares_of a.exit.now ≡ shares_of a.entry.now) × (shares_of b.exit.now ≡ shares_of b.entry.now) }
         { in_two(rt, turnstile, a, b) },
         &mut ||
             requires { IsSync R.row × IsPassOf turnstile.now c.now × IsPassOf turnstile.now d.now × IsOutside c.now × IsOutside d.now }
-            ensures { IsPassOf turnstile.now c.exit.now × IsPassOf turnstile.now d.exit.now × IsOutside c.exit.now × IsOutside d.exit.now × (shares_of c.exit.now ≡ shares_of c.entry.now) × (shares_of d.exit.now ≡ shares_of d.entry.now) }
+            ensures { IsPassOf turnstile.entry.now c.exit.now × IsPassOf turnstile.entry.now d.exit.now × IsOutside c.exit.now × IsOutside d.exit.now × (shares_of c.exit.now ≡ shares_of c.entry.now) × (shares_of d.exit.now ≡ shares_of d.entry.now) }
         { in_two(rt, turnstile, c, d) },
     );
 }

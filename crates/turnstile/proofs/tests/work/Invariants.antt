@@ -3,4 +3,4 @@ use Rattle.turnstile.specs.Passes.{IsPassOf, IsOutside, shares_of}
 use Rattle.turnstile.proofs.tests.work.Given as goal
 
 abbrev pub invariant-loop : goal.invariant-loop
-invariant-loop g l = IsPassOf l.fn.turnstile.now l.pass × IsOutside l.pass × (shares_of l.pass ≡ shares_of l.fn.pass.now)
+invariant-loop g l = IsPassOf l.fn.turnstile l.pass × IsOutside l.pass × (shares_of l.pass ≡ shares_of l.fn.pass)
