@@ -10,6 +10,7 @@ use Rattle.btree_cow.specs.Shelf.{Shelf}
 use Rattle.btree_cow.specs.Trees.{is_past, nearest, value_of}
 use Rattle.btree_cow.specs.Causes.{BreaksTree, BreaksFrom, Reason}
 use Rattle.btree_cow.specs.Finds.{Finds, value_in}
+use Rattle.btree_cow.specs.Walks.{EndsAt, HasValue, Reaches, ReadsValue}
 use Rattle.btree_cow.specs.declared.walk.Place.{Place}
 use Rattle.btree_cow.proofs.Finds.{find_down, find_none_down}
 use Rattle.btree_cow.proofs.Steps.{none_down}
@@ -45,6 +46,17 @@ value_by_nearest q (x ∷ es) rise =
 
 pub value_found : (ok : ℕ → ℕ → Bool) (s : Shelf) (q : ℕ) (entries : List Entry) (entry : Option Entry) (second : Option Place) → Finds ok s true false q entries entry second → value_in entry q ≡ value_of entries q
 value_found ok s q entries entry second f = ap (λ (o : Option Entry). value_in o q) f.here ∙ value_by_nearest q f.leaf f.rise ∙ sym f.value
+
+-- ---- on any blocks
+
+none_at_end : (s : Shelf) (q block : ℕ) (entry : Option Entry) → EndsAt s true false q block entry → HasValue s q block (value_in entry q)
+none_at_end s q block entry (inl h) = inl (h.0, h.1, ap (λ (o : Option Entry). value_in o q) h.2 ∙ value_by_nearest q h.0 h.1.2.rise)
+none_at_end s q block entry (inr h) = inr (h.0, h.1, h.3, ap (λ (o : Option Entry). value_in o q) h.4)
+
+pub reads_value : (s : Shelf) (root : Option ℕ) (at q : ℕ) (entry : Option Entry) (value : Option ℕ) → root ≡ Some at → Reaches s true false q at entry → value ≡ value_in entry q → ReadsValue s root q value
+reads_value s root at q entry value is r same =
+    subst (λ (o : Option ℕ). ReadsValue s o q value) (sym is)
+    (subst (λ (v : Option ℕ). ReadsValue s (Some at) q v) (sym same) (r.links, r.few, r.block, r.way, none_at_end s q r.block entry r.end))
 
 -- ---- the reasons
 

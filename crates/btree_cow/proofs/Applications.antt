@@ -1,17 +1,23 @@
 -- Changes one after another.
-use Rattle.std.proofs.Common.{◌≡◌, ◌⊎◌, ℕ, ◌<◌, ◌≤◌, ◌+◌, Bool, true, List, [], ◌∷◌, length, drop, get_or, refl, ◌∙◌, subst, arith}
-use Rattle.std.specs.Prelude.{Option, Some, None, IsTrue}
+use Rattle.std.proofs.Common.{◌≡◌, ◌⊎◌, inl, inr, sym, ap, ◌++◌, append_assoc, ℕ, ◌<◌, ◌≤◌, ◌+◌, ◌*◌, Bool, true, List, [], ◌∷◌, length, drop, get_or, refl, ◌∙◌, subst, arith}
+use Rattle.std.specs.Prelude.{Option, Some, None, IsTrue, Result, IfOk}
 use Rattle.std.specs.List.{list_all}
 use Rattle.std.proofs.lemmas.Bool.{and_parts}
-use Rattle.std.proofs.lemmas.List.{drop_more}
+use Rattle.std.proofs.lemmas.List.{append-nil, drop_all, drop_more}
+use Rattle.std.proofs.lemmas.Option.{none-some, same_Some}
+use Rattle.block_host.specs.Disk.{risen}
 use Rattle.forest_model.specs.declared.refusal.Refusal.{Refusal}
 use Rattle.node_page.specs.Nodes.{Entry}
 use Rattle.btree_cow.specs.Shelf.{Shelf, Later}
 use Rattle.btree_cow.specs.Trees.{Tree}
 use Rattle.btree_cow.specs.Causes.{is_full}
-use Rattle.btree_cow.specs.Changes.{Change, SameLimits, StaysWell, after_change, after_changes, is_well, put_well}
+use Rattle.btree_cow.specs.Copies.{Inserts}
+use Rattle.btree_cow.specs.Takes.{ApplyFails, MakesChange, Runs, Takes}
+use Rattle.btree_cow.specs.Changes.{Change, ChangeFails, SameLimits, StaysWell, after_change, after_changes, is_well, put_well}
 use Rattle.btree_cow.proofs.Finds.{all_so}
-use Rattle.btree_cow.proofs.Growth.{later_on}
+use Rattle.btree_cow.proofs.Copies.{few_of_insert}
+use Rattle.btree_cow.proofs.Takes.{few_of_removal}
+use Rattle.btree_cow.proofs.Growth.{later_on, later_same}
 use Rattle.btree_cow.proofs.Contents.{any_value, any_well, root_any}
 
 -- the changes so far, and those that are left
@@ -19,19 +25,80 @@ pub record Applies (tells : Bool) (old new : Shelf) (before after : ℕ) (root a
   pub later : IsTrue tells → Later old new
   pub limits : SameLimits old new
   pub same : after ≡ before
+  pub done : List Change
+  pub split : changes ≡ done ++ rest
+  pub run : IsTrue tells → Runs done root old new at
   pub stands : IsTrue tells → (ok : ℕ → ℕ → Bool) (entries : List Entry) → StaysWell ok → IsTrue (put_well ok old.used changes) → Tree ok old root entries
       → (now : List Entry) × Tree ok new at now × (after_changes now rest ≡ after_changes entries changes) × IsTrue (put_well ok new.used rest)
+
+-- ---- a run
+
+runs_more : (done : List Change) (c : Change) (root at next : Option ℕ) (old mid new : Shelf) → Runs done root old mid at → MakesChange c at mid new next → Runs (done ++ c ∷ []) root old new next
+runs_more [] c root at next old mid new run made =
+    (new, next, subst (λ (o : Option ℕ). MakesChange c o old new next) run.1 (subst (λ (s : Shelf). MakesChange c at s new next) run.0 made), (refl, refl))
+runs_more (d ∷ done) c root at next old mid new run made = (run.0, run.1, run.2, runs_more done c run.1 at next run.0 mid new run.3 made)
+
+pub made_put : (change : Change) (root : Option ℕ) (old new : Shelf) (value at : ℕ) → change.1 ≡ Some value → Inserts root change.0 value old new at → MakesChange change root old new (Some at)
+made_put (chunk, None) root old new value at is made = absurd (none-some value is)
+made_put (chunk, Some other) root old new value at is made = (at, refl, subst (λ (n : ℕ). Inserts root chunk n old new at) (sym (same_Some other value is)) made)
+
+pub made_removal : (change : Change) (root : Option ℕ) (old new : Shelf) (r : Result (Option ℕ) Refusal) → change.1 ≡ None → IfOk r (Takes root change.0 old new) → IfOk r (MakesChange change root old new)
+made_removal (chunk, None) root old new r is made = made
+made_removal (chunk, Some other) root old new r is made = absurd (none-some other (sym is))
+
+pub applies_start : (tells : Bool) (s : Shelf) (x : ℕ) (root : Option ℕ) (changes : List Change) → Applies tells s s x x root root changes changes
+applies_start tells s x root changes = record {
+  later = λ told. later_same s;
+  limits = record { lender = refl; file = refl; used = omega arith; most = refl; max = refl };
+  same = refl;
+  done = [];
+  split = refl;
+  run = λ told. (refl, refl);
+  stands = λ told ok entries well puts tree. (entries, tree, refl, puts);
+}
+
+pub runs_whole : (tells : Bool) (old new : Shelf) (x y : ℕ) (root at : Option ℕ) (changes : List Change) (n : ℕ) → length changes ≤ n → Applies tells old new x y root at changes (drop n changes) → IsTrue tells → Runs changes root old new at
+runs_whole tells old new x y root at changes n all a told =
+    subst (λ (l : List Change). Runs l root old new at)
+    (sym (append-nil a.done) ∙ ap (λ (l : List Change). a.done ++ l) (sym (drop_all n changes all)) ∙ sym a.split) (a.run told)
+
+pub left_fails : (tells : Bool) (old mid new : Shelf) (x y z : ℕ) (root at : Option ℕ) (changes rest : List Change) (why : Refusal) → Applies tells old mid x y root at changes rest → ChangeFails tells mid new at y z why → ApplyFails tells old new root changes x z why
+left_fails tells old mid new x y z root at changes rest why a (inl disk) = inl (disk.0, subst (λ (n : ℕ). risen n ≤ z) a.same disk.1)
+left_fails tells old mid new x y z root at changes rest why a (inr (inl full)) = inr (inl full)
+left_fails tells old mid new x y z root at changes rest why a (inr (inr damaged)) =
+    inr (
+    inr (
+      damaged.0,
+      damaged.1 ∙ ap (λ (f : ℕ). Refusal.Damaged f damaged.0) a.limits.file,
+      λ told. record { done = a.done; rest = rest; split = a.split; mid = mid; later = a.later told; at = at; run = a.run told; broken = damaged.2 told },
+    ))
+
+-- ---- how many blocks
+
+few_of_change : (c : Change) (root next : Option ℕ) (old new : Shelf) → MakesChange c root old new next → new.used ≤ old.used + 21
+few_of_change (chunk, Some value) root next old new made = few_of_insert root chunk value made.0 old new made.2
+few_of_change (chunk, None) root next old new made = omega (arith, few_of_removal root chunk old new next made)
+
+pub few_of_run : (changes : List Change) (root at : Option ℕ) (old new : Shelf) → Runs changes root old new at → new.used ≤ old.used + 21 * length changes
+few_of_run [] root at old new run = subst (λ (s : Shelf). s.used ≤ old.used + 0) (sym run.0) (omega arith)
+few_of_run (c ∷ changes) root at old new run =
+    omega (arith, few_of_change c root run.1 old run.0 run.2, few_of_run changes run.1 at run.0 new run.3)
+
+-- ---- one change more
 
 stays : (ok : ℕ → ℕ → Bool) (at later : ℕ) (c : Change) → StaysWell ok → at ≤ later → is_well ok at c ≡ true → is_well ok later c ≡ true
 stays ok at later (chunk, None) well le h = refl
 stays ok at later (chunk, Some value) well le h = well at later value le h
 
 pub applies_next : (tells : Bool) (old mid new : Shelf) (x y z : ℕ) (root at at' : Option ℕ) (changes rest : List Change) (c : Change) → Applies tells old mid x y root at changes (c ∷ rest) → (IsTrue tells → Later mid new) → SameLimits mid new → z ≡ y
-    → (IsTrue tells → (ok : ℕ → ℕ → Bool) (entries : List Entry) → StaysWell ok → IsTrue (is_well ok mid.used c) → Tree ok mid at entries → Tree ok new at' (after_change entries c)) → Applies tells old new x z root at' changes rest
-applies_next tells old mid new x y z root at at' changes rest c a later limits same stands = record {
+    → (IsTrue tells → (ok : ℕ → ℕ → Bool) (entries : List Entry) → StaysWell ok → IsTrue (is_well ok mid.used c) → Tree ok mid at entries → Tree ok new at' (after_change entries c)) → (IsTrue tells → MakesChange c at mid new at') → Applies tells old new x z root at' changes rest
+applies_next tells old mid new x y z root at at' changes rest c a later limits same stands made = record {
   later = λ told. later_on old mid new (a.later told) (later told);
   limits = record { lender = limits.lender ∙ a.limits.lender; file = limits.file ∙ a.limits.file; used = omega (arith, a.limits.used, limits.used); most = limits.most ∙ a.limits.most; max = limits.max ∙ a.limits.max };
   same = same ∙ a.same;
+  done = a.done ++ c ∷ [];
+  split = a.split ∙ sym (append_assoc a.done (c ∷ []) rest);
+  run = λ told. runs_more a.done c root at at' old mid new (a.run told) (made told);
   stands = λ told ok entries well puts tree.
       let so = a.stands told ok entries well puts tree in
       let parts = and_parts (is_well ok mid.used c) (list_all (is_well ok mid.used) rest) so.3 in
@@ -52,10 +119,10 @@ applies_stands tells old mid x y root at changes rest ok entries Q told a tree s
 -- the changes that are left at an index
 pub left_next : (tells : Bool) (old mid new : Shelf) (x y z : ℕ) (root at at' : Option ℕ) (changes : List Change) (n : ℕ) (d : Change) → n < length changes → Applies tells old mid x y root at changes (drop n changes) → (IsTrue tells → Later mid new) → SameLimits mid new → z ≡ y
     → (IsTrue tells → (ok : ℕ → ℕ → Bool) (entries : List Entry) → StaysWell ok → IsTrue (is_well ok mid.used (get_or changes n d)) → Tree ok mid at entries → Tree ok new at' (after_change entries (get_or changes n d)))
-    → Applies tells old new x z root at' changes (drop (n + 1) changes)
-left_next tells old mid new x y z root at at' changes n d less a later limits same stands =
+    → (IsTrue tells → MakesChange (get_or changes n d) at mid new at') → Applies tells old new x z root at' changes (drop (n + 1) changes)
+left_next tells old mid new x y z root at at' changes n d less a later limits same stands made =
     applies_next tells old mid new x y z root at at' changes (drop (n + 1) changes) (get_or changes n d)
-    (subst (λ (l : List Change). Applies tells old mid x y root at changes l) (drop_more changes n d less) a) later limits same stands
+    (subst (λ (l : List Change). Applies tells old mid x y root at changes l) (drop_more changes n d less) a) later limits same stands made
 
 pub left_stands : (tells : Bool) (old mid new : Shelf) (x y : ℕ) (root at : Option ℕ) (changes rest : List Change) (ok : ℕ → ℕ → Bool) (entries : List Entry) (why : Refusal) → IsTrue tells → Applies tells old mid x y root at changes rest → Tree ok old root entries
     → ((ok : ℕ → ℕ → Bool) (entries : List Entry) → Tree ok mid at entries → (why ≡ Refusal.DiskFault) ⊎ (why ≡ is_full new)) → (why ≡ Refusal.DiskFault) ⊎ (why ≡ is_full new)

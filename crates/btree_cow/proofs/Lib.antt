@@ -26,3 +26,5 @@ mod Applications
 mod TreeEntries
 mod Standing
 mod Stored
+mod Copies
+mod Takes

@@ -1,13 +1,11 @@
 -- Trees in a file whose blocks stand in another one too.
-use Rattle.std.proofs.Common.{◌≡◌, ℕ, zero, suc, ◌≤◌, Bool, true, false, List, refl, arith}
-use Rattle.std.specs.Prelude.{Option, Some, None, IsTrue}
-use Rattle.std.specs.List.{list_all}
-use Rattle.std.proofs.lemmas.Bool.{and_parts}
+use Rattle.std.proofs.Common.{◌≡◌, ℕ, zero, suc, Bool, true, false, List, arith}
+use Rattle.std.specs.Prelude.{Option, Some, None}
 use Rattle.node_page.specs.Nodes.{Entry}
 use Rattle.btree_cow.specs.Shelf.{Shelf, Stored, Later}
 use Rattle.btree_cow.specs.Trees.{NodeAt, Tree, TreeAt}
 use Rattle.btree_cow.proofs.Finds.{all_so}
-use Rattle.btree_cow.proofs.Growth.{fan_over, tree_later}
+use Rattle.btree_cow.proofs.Growth.{fan_over}
 
 abbrev HasBlocksOf : Shelf → Shelf → Type 0
 HasBlocksOf s other = (at : ℕ) (stored : Stored) → s.blocks at ≡ Some stored → other.blocks at ≡ Some stored

@@ -5,7 +5,7 @@ use Rattle.std.specs.Option.{option_map_or}
 use Rattle.block_host.specs.Disk.{risen}
 use Rattle.forest_model.specs.declared.refusal.Refusal.{Refusal}
 use Rattle.node_page.specs.Nodes.{Entry}
-use Rattle.btree_cow.specs.Shelf.{Shelf, Later}
+use Rattle.btree_cow.specs.Shelf.{Shelf}
 use Rattle.btree_cow.specs.Causes.{BreaksFrom, is_full}
 
 -- with a value for a chunk, in place of an older one
@@ -61,11 +61,3 @@ is_well ok at c = option_map_or (λ (value : ℕ). ok at value) c.1 true
 
 abbrev pub put_well : (ℕ → ℕ → Bool) → ℕ → List Change → Bool
 put_well ok at changes = list_all (is_well ok at) changes
-
--- The reasons not to make changes: a count of faults that rose, no room for a block more, or a block that breaks the tree
--- of some root in a file to which nodes were added.
-abbrev pub ApplyFails : Bool → Shelf → Shelf → ℕ → ℕ → Refusal → Type 0
-ApplyFails tells old new before after why =
-    ((why ≡ Refusal.DiskFault) × (risen before ≤ after))
-    ⊎ ((why ≡ is_full new) × (new.most ≤ new.used))
-    ⊎ ((block : ℕ) × (why ≡ Refusal.Damaged old.file block) × (IsTrue tells → (s : Shelf) × (root : Option ℕ) × Later old s × BreaksFrom s root block))

@@ -6,4 +6,6 @@ pub mod Changes
 pub mod Walks
 pub mod Finds
 pub mod Growing
+pub mod Copies
 pub mod Shrinking
+pub mod Takes

@@ -1,9 +1,10 @@
 -- What a walk down a tree finds on its way.
-use Rattle.std.specs.Prelude.{◌≡◌, ◌⊎◌, ℕ, ◌-◌, ◌^◌, ◌≤◌, Bool, true, false, not, List, [], ◌∷◌, ◌++◌, length, take, drop, nat_lt, Option, Some, None, IsTrue, if◌then◌else◌}
+use Rattle.std.specs.Prelude.{◌≡◌, ◌⊎◌, ℕ, zero, suc, ◌-◌, ◌^◌, ◌≤◌, Bool, true, false, not, List, [], ◌∷◌, ◌++◌, length, take, drop, nat_lt, Option, Some, None, IsTrue, if◌then◌else◌}
 use Rattle.std.specs.List.{list_all}
 use Rattle.std.specs.Option.{option_or}
 use Rattle.node_page.specs.Nodes.{Entry}
-use Rattle.btree_cow.specs.Trees.{is_past, nearest}
+use Rattle.btree_cow.specs.Shelf.{Shelf}
+use Rattle.btree_cow.specs.Trees.{NodeAt, is_past, nearest, value_of}
 
 -- an entry that a search upwards comes to, or that one downwards never comes to
 abbrev pub is_late : Bool → Bool → ℕ → Entry → Bool
@@ -47,3 +48,35 @@ GoesOn Stands with up q entries first None = nearest with up entries q ≡ neare
 GoesOn Stands with up q entries first (Some sibling) =
     (low : ℕ) × (high : Option ℕ) × (others : List Entry) × Stands sibling low high others
     × (nearest with up entries q ≡ option_or (nearest with up first q) (first_of up others))
+
+-- so many links lead down from a block to another, each from an inner node to the child in which a chunk can lie
+abbrev pub WayFor : Shelf → Bool → ℕ → ℕ → ℕ → ℕ → Type 0
+WayFor s up q zero at block = at ≡ block
+WayFor s up q (suc more) at block =
+    (children : List Entry) × NodeAt s at false children × (child : ℕ) × (sibling : Option ℕ) × IsChoice up q children child sibling
+    × WayFor s up q more child block
+
+-- where a search of a chunk ends: at the nearest entry of a leaf, or over an inner node with all its chunks above
+abbrev pub EndsAt : Shelf → Bool → Bool → ℕ → ℕ → Option Entry → Type 0
+EndsAt s with up q block entry =
+    ((leaf : List Entry) × NodeAt s block true leaf × (entry ≡ nearest with up leaf q))
+    ⊎ ((children : List Entry) × NodeAt s block false children × (up ≡ false) × IsTrue (list_all (λ (e : Entry). nat_lt q e.0) children) × (entry ≡ None))
+
+-- what a search finds at the end of the way for a chunk, each block of which was a node
+pub record Reaches (s : Shelf) (with up : Bool) (q at : ℕ) (entry : Option Entry) : Type 0 where
+  pub links : ℕ
+  pub few : links ≤ 9
+  pub block : ℕ
+  pub way : WayFor s up q links at block
+  pub end : EndsAt s with up q block entry
+
+-- the value of a chunk in the leaf at the end of its way, or none over an inner node with all its chunks above
+abbrev pub HasValue : Shelf → ℕ → ℕ → Option ℕ → Type 0
+HasValue s q block value =
+    ((leaf : List Entry) × NodeAt s block true leaf × (value ≡ value_of leaf q))
+    ⊎ ((children : List Entry) × NodeAt s block false children × IsTrue (list_all (λ (e : Entry). nat_lt q e.0) children) × (value ≡ None))
+
+-- what a look-up answers from any blocks: what stands at the end of the chunk's way, each block of which is a node
+abbrev pub ReadsValue : Shelf → Option ℕ → ℕ → Option ℕ → Type 0
+ReadsValue s None q value = value ≡ None
+ReadsValue s (Some at) q value = (links : ℕ) × (links ≤ 9) × (block : ℕ) × WayFor s false q links at block × HasValue s q block value

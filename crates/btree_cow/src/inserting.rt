@@ -1,10 +1,11 @@
-ghost use Rattle.std.specs.Prelude.{◌≡◌, ◌⊎◌, ◌≤◌, ℕ, Bool, List, IsTrue, Some, IfOk, IfErr, OnOk};
+ghost use Rattle.std.specs.Prelude.{◌≡◌, ◌≢◌, ◌⊎◌, ◌+◌, ◌*◌, Err, None, ◌≤◌, ℕ, Bool, List, IsTrue, Some, IfOk, IfErr, OnOk};
 ghost use Rattle.forest_model.specs.declared.refusal.Refusal.TheVariants as Refusal;
 ghost use Rattle.node_page.specs.Nodes.{Entry};
 ghost use Rattle.btree_cow.specs.Shelf.{Later};
-ghost use Rattle.btree_cow.specs.Trees.{Tree};
+ghost use Rattle.btree_cow.specs.Trees.{Tree, TreeAt};
 ghost use Rattle.btree_cow.specs.Causes.{is_full};
 ghost use Rattle.btree_cow.specs.Changes.{with_entry, StaysWell, SameLimits, ChangeFails};
+ghost use Rattle.btree_cow.specs.Copies.{Copied, Inserts, last_block};
 ghost use Rattle.btree_cow.specs.Growing.{Appends, IsApart, PutFails, Puts};
 
 use crate::Appender;
@@ -26,9 +27,11 @@ fn put<P: Appender>(
 ) -> Result<Grown, Refusal>
     ensures puts { IsTrue P.tells → IfOk result (Puts at chunk value (P.shelf pages.old) (P.shelf pages.new)) }
     ensures apart { IfOk result IsApart }
+    ensures copied { IsTrue P.tells → IfOk result (Copied left at chunk value (P.shelf pages.old) (P.shelf pages.new)) }
+    ensures last { IfOk result (λ grown. last_block grown + 1 ≡ (P.shelf pages.new).used) }
     ensures reason { IfErr result (PutFails P.tells left at (P.shelf pages.old) (P.shelf pages.new) (P.faults pages.old) (P.faults pages.new)) }
     ensures appends { Appends P.tells (P.shelf pages.old) (P.shelf pages.new) (P.faults pages.old) (P.faults pages.new) }
-    ensures untroubled { OnOk result (P.faults pages.new ≡ P.faults pages.old) }
+    ensures untroubled { result ≢ Err Refusal.DiskFault → P.faults pages.new ≡ P.faults pages.old }
 {
     let mut node = read_node(pages, at)?;
     if node.leaf {
@@ -55,12 +58,15 @@ pub fn insert<P: Appender>(
     value: u64,
 ) -> Result<u64, Refusal>
     ensures inserted { IsTrue P.tells → (ok : ℕ → ℕ → Bool) (entries : List Entry) → StaysWell ok → IsTrue (ok (P.shelf pages.old).used value) → Tree ok (P.shelf pages.old) root entries → IfOk result (λ at. Tree ok (P.shelf pages.new) (Some at) (with_entry entries chunk value)) }
+    ensures copies { IsTrue P.tells → IfOk result (Inserts root chunk value (P.shelf pages.old) (P.shelf pages.new)) }
+    ensures few { IsTrue P.tells → (ok : ℕ → ℕ → Bool) (at height : ℕ) (entries : List Entry) → root ≡ Some at → TreeAt ok (P.shelf pages.old) height 1 at 0 None entries → OnOk result ((P.shelf pages.new).used ≤ (P.shelf pages.old).used + (2 * height + 3)) }
+    ensures last { IfOk result (λ at. at + 1 ≡ (P.shelf pages.new).used) }
     ensures stands { IsTrue P.tells → (ok : ℕ → ℕ → Bool) (entries : List Entry) → Tree ok (P.shelf pages.old) root entries → IfErr result (λ why. (why ≡ Refusal.DiskFault) ⊎ (why ≡ is_full (P.shelf pages.new))) }
     ensures reason { IfErr result (ChangeFails P.tells (P.shelf pages.old) (P.shelf pages.new) root (P.faults pages.old) (P.faults pages.new)) }
     ensures later { IsTrue P.tells → Later (P.shelf pages.old) (P.shelf pages.new) }
     ensures limits { SameLimits (P.shelf pages.old) (P.shelf pages.new) }
     ensures counts { P.faults pages.old ≤ P.faults pages.new }
-    ensures untroubled { OnOk result (P.faults pages.new ≡ P.faults pages.old) }
+    ensures untroubled { result ≢ Err Refusal.DiskFault → P.faults pages.new ≡ P.faults pages.old }
 {
     let Some(at) = root else {
         return add_node(pages, true, &[(chunk, value)]);

@@ -1,5 +1,8 @@
-ghost use Rattle.std.specs.Prelude.{◌≡◌, ◌⊎◌, ◌+◌, ◌<◌, ◌≤◌, Bool, false, List, length, ◌++◌, IsTrue, IfOk, IfErr, IfSome, IfNone, OnOk};
+ghost use Rattle.std.specs.Prelude.{◌≡◌, ◌⊎◌, ◌+◌, ◌<◌, ◌≤◌, Bool, true, false, List, length, ◌++◌, IsTrue, IfOk, IfErr, IfSome, IfNone, OnOk, ◌≢◌, Err};
+ghost use Rattle.forest_model.specs.declared.refusal.Refusal.TheVariants as Refusal;
 ghost use Rattle.node_page.specs.Nodes.{Entry, rises};
+ghost use Rattle.btree_cow.specs.Copies.{Makes};
+ghost use Rattle.btree_cow.specs.Takes.{LeftAlone, Refilled};
 ghost use Rattle.btree_cow.specs.Growing.{Appends, AppendFails, IsApart, Stores, first_chunk};
 ghost use Rattle.btree_cow.specs.Shrinking.{IsNeighbour, RefillFails, Refills, first_place, led_to, side_by_side, with_joined};
 
@@ -29,6 +32,7 @@ fn neighbour_of(children: &[(u64, u64)], place: usize) -> Option<Neighbour>
     requires { place < length children.now }
     ensures some { IfSome result (λ n. IsNeighbour children.now place n.in_front n.block) }
     ensures first { IfSome result (λ n. (n.first ≡ first_place n.in_front place) × (n.first + 1 < length children.now)) }
+    ensures last { IfSome result (λ n. n.in_front ≡ true → length children.now ≤ place + 1) }
     ensures none { IfNone result (length children.now ≤ 1) }
 {
     if place + 1 < children.len() {
@@ -114,9 +118,10 @@ fn store_joined<P: Appender>(
     requires most { length entries.now ≤ 378 }
     requires rise { IsTrue (rises entries.now) }
     ensures stores { IsTrue P.tells → IfOk result (Stores leaf entries.now (P.shelf pages.old) (P.shelf pages.new)) }
+    ensures makes { IsTrue P.tells → IfOk result (Makes leaf entries.now (P.shelf pages.old) (P.shelf pages.new)) }
     ensures reason { IfErr result (AppendFails (P.shelf pages.new) (P.faults pages.old) (P.faults pages.new)) }
     ensures appends { Appends P.tells (P.shelf pages.old) (P.shelf pages.new) (P.faults pages.old) (P.faults pages.new) }
-    ensures untroubled { OnOk result (P.faults pages.new ≡ P.faults pages.old) }
+    ensures untroubled { result ≢ Err Refusal.DiskFault → P.faults pages.new ≡ P.faults pages.old }
 {
     if entries.len() <= MOST {
         let at = add_node(pages, leaf, entries)?;
@@ -168,11 +173,12 @@ fn store_alone<P: Appender>(
     requires rise { IsTrue (rises children.old.items) }
     requires few { length short.now.entries.items < 126 }
     requires second { IsTrue (rises short.now.entries.items) }
+    ensures alone { IsTrue P.tells → OnOk result (LeftAlone short.now.leaf short.now.entries.items children.old.items place (P.shelf pages.old) (P.shelf pages.new) children.new.items) }
     ensures rise { OnOk result (IsTrue (rises children.new.items)) }
     ensures most { OnOk result (length children.new.items ≤ length children.old.items) }
     ensures reason { IfErr result (AppendFails (P.shelf pages.new) (P.faults pages.old) (P.faults pages.new)) }
     ensures appends { Appends P.tells (P.shelf pages.old) (P.shelf pages.new) (P.faults pages.old) (P.faults pages.new) }
-    ensures untroubled { OnOk result (P.faults pages.new ≡ P.faults pages.old) }
+    ensures untroubled { result ≢ Err Refusal.DiskFault → P.faults pages.new ≡ P.faults pages.old }
 {
     if short.entries.is_empty() {
         children.remove(place);
@@ -198,11 +204,12 @@ pub(crate) fn refill<P: Appender>(
     requires few { length short.now.entries.items < 126 }
     requires second { IsTrue (rises short.now.entries.items) }
     ensures refills { IsTrue P.tells → OnOk result (Refills short.now.leaf short.now.entries.items children.old.items place (P.shelf pages.old) (P.shelf pages.new) children.new.items) }
+    ensures refilled { IsTrue P.tells → OnOk result (Refilled short.now.leaf short.now.entries.items children.old.items place (P.shelf pages.old) (P.shelf pages.new) children.new.items) }
     ensures rise { OnOk result (IsTrue (rises children.new.items)) }
     ensures most { OnOk result (length children.new.items ≤ length children.old.items) }
     ensures reason { IfErr result (RefillFails P.tells children.old.items at (P.shelf pages.old) (P.shelf pages.new) (P.faults pages.old) (P.faults pages.new)) }
     ensures appends { Appends P.tells (P.shelf pages.old) (P.shelf pages.new) (P.faults pages.old) (P.faults pages.new) }
-    ensures untroubled { OnOk result (P.faults pages.new ≡ P.faults pages.old) }
+    ensures untroubled { result ≢ Err Refusal.DiskFault → P.faults pages.new ≡ P.faults pages.old }
 {
     let Some(neighbour) = neighbour_of(children.as_slice(), place) else {
         return store_alone(pages, children, place, short);

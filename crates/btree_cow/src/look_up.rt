@@ -1,8 +1,8 @@
-ghost use Rattle.std.specs.Prelude.{◌≡◌, ◌≤◌, ℕ, Bool, true, List, IsTrue, IfOk, IfErr, OnOk};
+ghost use Rattle.std.specs.Prelude.{◌≡◌, ◌≤◌, ℕ, Bool, true, List, IsTrue, IfOk, IfErr, OnOk, ◌≢◌, Err, ◌+◌};
 ghost use Rattle.forest_model.specs.declared.refusal.Refusal.TheVariants as Refusal;
 ghost use Rattle.node_page.specs.Nodes.{Entry};
 ghost use Rattle.btree_cow.specs.Trees.{Tree, value_of, nearest};
-ghost use Rattle.btree_cow.specs.Walks.{edge};
+ghost use Rattle.btree_cow.specs.Walks.{ReadsValue, edge};
 ghost use Rattle.btree_cow.specs.Finds.{value_in};
 ghost use Rattle.btree_cow.specs.Causes.{BreaksFrom, Reason};
 
@@ -14,11 +14,12 @@ use forest_model::Refusal;
 /// The value of a chunk in the tree of a root.
 pub fn find<P: Pages>(pages: &mut P, root: Option<u64>, chunk: u64) -> Result<Option<u64>, Refusal>
     ensures found { IsTrue P.tells → (ok : ℕ → ℕ → Bool) (entries : List Entry) → Tree ok (P.shelf pages.old) root entries → IfOk result (λ value. value ≡ value_of entries chunk) }
+    ensures read { IsTrue P.tells → IfOk result (ReadsValue (P.shelf pages.old) root chunk) }
     ensures stands { IsTrue P.tells → (ok : ℕ → ℕ → Bool) (entries : List Entry) → Tree ok (P.shelf pages.old) root entries → IfErr result (λ why. why ≡ Refusal.DiskFault) }
     ensures reason { IfErr result (Reason P.tells (P.shelf pages.old).file (BreaksFrom (P.shelf pages.old) root) (P.faults pages.old) (P.faults pages.new)) }
     ensures kept { P.shelf pages.new ≡ P.shelf pages.old }
     ensures counts { P.faults pages.old ≤ P.faults pages.new }
-    ensures untroubled { OnOk result (P.faults pages.new ≡ P.faults pages.old) }
+    ensures untroubled { result ≢ Err Refusal.DiskFault → P.faults pages.new ≡ P.faults pages.old }
 {
     let Some(at) = root else {
         return Ok(None);
@@ -45,7 +46,7 @@ pub fn next<P: Pages>(
     ensures reason { IfErr result (Reason P.tells (P.shelf pages.old).file (BreaksFrom (P.shelf pages.old) root) (P.faults pages.old) (P.faults pages.new)) }
     ensures kept { P.shelf pages.new ≡ P.shelf pages.old }
     ensures counts { P.faults pages.old ≤ P.faults pages.new }
-    ensures untroubled { OnOk result (P.faults pages.new ≡ P.faults pages.old) }
+    ensures untroubled { result ≢ Err Refusal.DiskFault → P.faults pages.new ≡ P.faults pages.old }
 {
     let Some(at) = root else {
         return Ok(None);

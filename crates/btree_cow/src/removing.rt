@@ -1,11 +1,12 @@
-ghost use Rattle.std.specs.Prelude.{◌≡◌, ◌⊎◌, ◌<◌, ◌≤◌, ℕ, Bool, true, false, List, length, Option, Some, None, [], ◌∷◌, IsTrue, IfOk, IfErr, IfSome, IfNone, OnOk};
+ghost use Rattle.std.specs.Prelude.{◌≡◌, ◌⊎◌, ◌<◌, ◌≤◌, ℕ, Bool, true, false, List, length, Option, Some, None, [], ◌∷◌, IsTrue, IfOk, IfErr, IfSome, IfNone, OnOk, ◌≢◌, Err, ◌+◌, ◌*◌};
 ghost use Rattle.forest_model.specs.declared.refusal.Refusal.TheVariants as Refusal;
 ghost use Rattle.node_page.specs.Nodes.{Entry, rises};
 ghost use Rattle.btree_cow.specs.Shelf.{Later, Shelf};
-ghost use Rattle.btree_cow.specs.Trees.{NodeAt, Tree, value_of};
+ghost use Rattle.btree_cow.specs.Trees.{NodeAt, Tree, TreeAt, value_of};
 ghost use Rattle.btree_cow.specs.Causes.{is_full};
 ghost use Rattle.btree_cow.specs.Changes.{without_entry, StaysWell, SameLimits, ChangeFails};
 ghost use Rattle.btree_cow.specs.Growing.{Appends, AppendFails, PutFails};
+ghost use Rattle.btree_cow.specs.Takes.{Passed, RootLeft, Settled, Taken, Takes, TakesOut};
 ghost use Rattle.btree_cow.specs.Shrinking.{IsChanged, IsSame, IsShort, Passes, RefillFails, Removes, Roots, Settles};
 
 use crate::Appender;
@@ -37,11 +38,12 @@ fn settle<P: Appender>(pages: &mut P, node: Node) -> Result<Shrunk, Refusal>
     requires most { length node.entries.items ≤ 253 }
     requires rise { IsTrue (rises node.entries.items) }
     ensures settles { IsTrue P.tells → IfOk result (Settles node.leaf node.entries.items (P.shelf pages.old) (P.shelf pages.new)) }
+    ensures settled { IsTrue P.tells → IfOk result (Settled node.leaf node.entries.items (P.shelf pages.old) (P.shelf pages.new)) }
     ensures short { IfOk result IsShort }
     ensures changed { IfOk result IsChanged }
     ensures reason { IfErr result (AppendFails (P.shelf pages.new) (P.faults pages.old) (P.faults pages.new)) }
     ensures appends { Appends P.tells (P.shelf pages.old) (P.shelf pages.new) (P.faults pages.old) (P.faults pages.new) }
-    ensures untroubled { OnOk result (P.faults pages.new ≡ P.faults pages.old) }
+    ensures untroubled { result ≢ Err Refusal.DiskFault → P.faults pages.new ≡ P.faults pages.old }
 {
     if node.entries.len() < LEAST {
         return Ok(Shrunk::Short(node));
@@ -59,11 +61,12 @@ fn remove_from_leaf<P: Appender>(
     requires most { length leaf.entries.items ≤ 253 }
     requires rise { IsTrue (rises leaf.entries.items) }
     ensures removes { IsTrue P.tells → leaf.leaf ≡ true → (at : ℕ) → NodeAt (P.shelf pages.old) at true leaf.entries.items → IfOk result (Removes at chunk (P.shelf pages.old) (P.shelf pages.new)) }
+    ensures taken { IsTrue P.tells → leaf.leaf ≡ true → IfOk result (TakesOut leaf.entries.items chunk (P.shelf pages.old) (P.shelf pages.new)) }
     ensures short { IfOk result IsShort }
     ensures same { IfOk result (IsSame (P.shelf pages.old) (P.shelf pages.new)) }
     ensures reason { IfErr result (AppendFails (P.shelf pages.new) (P.faults pages.old) (P.faults pages.new)) }
     ensures appends { Appends P.tells (P.shelf pages.old) (P.shelf pages.new) (P.faults pages.old) (P.faults pages.new) }
-    ensures untroubled { OnOk result (P.faults pages.new ≡ P.faults pages.old) }
+    ensures untroubled { result ≢ Err Refusal.DiskFault → P.faults pages.new ≡ P.faults pages.old }
 {
     if take_entry(&mut leaf.entries, chunk) {
         settle(pages, leaf)
@@ -85,11 +88,12 @@ fn pass_up<P: Appender>(
     requires rise { IsTrue (rises node.entries.items) }
     requires short { IsShort shrunk }
     ensures passes { IsTrue P.tells → node.leaf ≡ false → IfOk result (Passes node.entries.items place shrunk (P.shelf pages.old) (P.shelf pages.new)) }
+    ensures passed { IsTrue P.tells → node.leaf ≡ false → IfOk result (Passed node.entries.items place shrunk (P.shelf pages.old) (P.shelf pages.new)) }
     ensures same { IfOk result (λ s. (first : Shelf) → IsSame first (P.shelf pages.old) shrunk → IsSame first (P.shelf pages.new) s) }
     ensures short { IfOk result IsShort }
     ensures reason { IfErr result (RefillFails P.tells node.entries.items at (P.shelf pages.old) (P.shelf pages.new) (P.faults pages.old) (P.faults pages.new)) }
     ensures appends { Appends P.tells (P.shelf pages.old) (P.shelf pages.new) (P.faults pages.old) (P.faults pages.new) }
-    ensures untroubled { OnOk result (P.faults pages.new ≡ P.faults pages.old) }
+    ensures untroubled { result ≢ Err Refusal.DiskFault → P.faults pages.new ≡ P.faults pages.old }
 {
     match shrunk {
         Shrunk::Absent => Ok(Shrunk::Absent),
@@ -107,11 +111,12 @@ fn pass_up<P: Appender>(
 // Removes a chunk from the tree in a block, going down so many links at most.
 fn remove_from<P: Appender>(pages: &mut P, at: u64, left: u8, chunk: u64) -> Result<Shrunk, Refusal>
     ensures removes { IsTrue P.tells → IfOk result (Removes at chunk (P.shelf pages.old) (P.shelf pages.new)) }
+    ensures taken { IsTrue P.tells → IfOk result (Taken left at chunk (P.shelf pages.old) (P.shelf pages.new)) }
     ensures short { IfOk result IsShort }
     ensures same { IfOk result (IsSame (P.shelf pages.old) (P.shelf pages.new)) }
     ensures reason { IfErr result (PutFails P.tells left at (P.shelf pages.old) (P.shelf pages.new) (P.faults pages.old) (P.faults pages.new)) }
     ensures appends { Appends P.tells (P.shelf pages.old) (P.shelf pages.new) (P.faults pages.old) (P.faults pages.new) }
-    ensures untroubled { OnOk result (P.faults pages.new ≡ P.faults pages.old) }
+    ensures untroubled { result ≢ Err Refusal.DiskFault → P.faults pages.new ≡ P.faults pages.old }
 {
     let node = read_node(pages, at)?;
     if node.leaf {
@@ -143,9 +148,10 @@ fn root_of<P: Appender>(pages: &mut P, node: &Node) -> Result<Option<u64>, Refus
     requires few { length node.now.entries.items < 126 }
     requires rise { IsTrue (rises node.now.entries.items) }
     ensures roots { IsTrue P.tells → IfOk result (Roots node.now.leaf node.now.entries.items (P.shelf pages.old) (P.shelf pages.new)) }
+    ensures left { IsTrue P.tells → IfOk result (RootLeft node.now.leaf node.now.entries.items (P.shelf pages.old) (P.shelf pages.new)) }
     ensures reason { IfErr result (AppendFails (P.shelf pages.new) (P.faults pages.old) (P.faults pages.new)) }
     ensures appends { Appends P.tells (P.shelf pages.old) (P.shelf pages.new) (P.faults pages.old) (P.faults pages.new) }
-    ensures untroubled { OnOk result (P.faults pages.new ≡ P.faults pages.old) }
+    ensures untroubled { result ≢ Err Refusal.DiskFault → P.faults pages.new ≡ P.faults pages.old }
 {
     if node.entries.is_empty() {
         return Ok(None);
@@ -165,13 +171,15 @@ pub fn remove<P: Appender>(
     chunk: u64,
 ) -> Result<Option<u64>, Refusal>
     ensures removed { IsTrue P.tells → (ok : ℕ → ℕ → Bool) (entries : List Entry) → StaysWell ok → Tree ok (P.shelf pages.old) root entries → IfOk result (λ at. Tree ok (P.shelf pages.new) at (without_entry entries chunk)) }
+    ensures copies { IsTrue P.tells → IfOk result (Takes root chunk (P.shelf pages.old) (P.shelf pages.new)) }
+    ensures few { IsTrue P.tells → (ok : ℕ → ℕ → Bool) (at height : ℕ) (entries : List Entry) → root ≡ Some at → TreeAt ok (P.shelf pages.old) height 1 at 0 None entries → OnOk result ((P.shelf pages.new).used ≤ (P.shelf pages.old).used + (2 * height + 1)) }
     ensures absent { IsTrue P.tells → (ok : ℕ → ℕ → Bool) (entries : List Entry) → Tree ok (P.shelf pages.old) root entries → value_of entries chunk ≡ None → IfOk result (λ at. (at ≡ root) × (P.shelf pages.new ≡ P.shelf pages.old)) }
     ensures stands { IsTrue P.tells → (ok : ℕ → ℕ → Bool) (entries : List Entry) → Tree ok (P.shelf pages.old) root entries → IfErr result (λ why. (why ≡ Refusal.DiskFault) ⊎ (why ≡ is_full (P.shelf pages.new))) }
     ensures reason { IfErr result (ChangeFails P.tells (P.shelf pages.old) (P.shelf pages.new) root (P.faults pages.old) (P.faults pages.new)) }
     ensures later { IsTrue P.tells → Later (P.shelf pages.old) (P.shelf pages.new) }
     ensures limits { SameLimits (P.shelf pages.old) (P.shelf pages.new) }
     ensures counts { P.faults pages.old ≤ P.faults pages.new }
-    ensures untroubled { OnOk result (P.faults pages.new ≡ P.faults pages.old) }
+    ensures untroubled { result ≢ Err Refusal.DiskFault → P.faults pages.new ≡ P.faults pages.old }
 {
     let Some(at) = root else {
         return Ok(None);

@@ -1,7 +1,9 @@
-ghost use Rattle.std.specs.Prelude.{◌≡◌, ◌<◌, ◌≤◌, ℕ, Bool, List, length, IsTrue, IfOk, IfErr, OnOk};
+ghost use Rattle.std.specs.Prelude.{◌≡◌, ◌≢◌, ◌+◌, Err, ◌<◌, ◌≤◌, ℕ, Bool, List, length, IsTrue, IfOk, IfErr, OnOk};
+ghost use Rattle.forest_model.specs.declared.refusal.Refusal.TheVariants as Refusal;
 ghost use Rattle.node_page.specs.Nodes.{Entry, IsNode, rises};
 ghost use Rattle.btree_cow.specs.Trees.{NodeAt};
 ghost use Rattle.btree_cow.specs.Causes.{IsNoNode, Reason};
+ghost use Rattle.btree_cow.specs.Copies.{Makes, last_block};
 ghost use Rattle.btree_cow.specs.Growing.{AddsNode, Appends, AppendFails, IsApart, IsRead, Stores, first_chunk};
 
 use crate::grown::Grown;
@@ -35,7 +37,7 @@ pub(crate) fn read_node<P: Pages>(pages: &mut P, at: u64) -> Result<Node, Refusa
     ensures reason { IfErr result (Reason P.tells (P.shelf pages.old).file (λ block. (block ≡ at) × IsNoNode (P.shelf pages.old) at) (P.faults pages.old) (P.faults pages.new)) }
     ensures kept { P.shelf pages.new ≡ P.shelf pages.old }
     ensures counts { P.faults pages.old ≤ P.faults pages.new }
-    ensures untroubled { OnOk result (P.faults pages.new ≡ P.faults pages.old) }
+    ensures untroubled { result ≢ Err Refusal.DiskFault → P.faults pages.new ≡ P.faults pages.old }
 {
     let mut page = Page::of(b"");
     pages.page(at, 2, &mut page)?;
@@ -61,9 +63,11 @@ pub(crate) fn add_node<P: Appender>(
     requires most { length entries.now ≤ 253 }
     requires rise { IsTrue (rises entries.now) }
     ensures added { IsTrue P.tells → IfOk result (AddsNode leaf entries.now (P.shelf pages.old) (P.shelf pages.new)) }
+    ensures last { IfOk result (λ at. at + 1 ≡ (P.shelf pages.new).used) }
+    ensures counted { OnOk result ((P.shelf pages.new).used ≡ (P.shelf pages.old).used + 1) }
     ensures reason { IfErr result (AppendFails (P.shelf pages.new) (P.faults pages.old) (P.faults pages.new)) }
     ensures appends { Appends P.tells (P.shelf pages.old) (P.shelf pages.new) (P.faults pages.old) (P.faults pages.new) }
-    ensures untroubled { OnOk result (P.faults pages.new ≡ P.faults pages.old) }
+    ensures untroubled { result ≢ Err Refusal.DiskFault → P.faults pages.new ≡ P.faults pages.old }
 {
     pages.add(2, &leaf_from(entries, leaf))
 }
@@ -85,10 +89,12 @@ pub(crate) fn store<P: Appender>(
     requires most { length entries.now ≤ 254 }
     requires rise { IsTrue (rises entries.now) }
     ensures stores { IsTrue P.tells → IfOk result (Stores leaf entries.now (P.shelf pages.old) (P.shelf pages.new)) }
+    ensures makes { IsTrue P.tells → IfOk result (Makes leaf entries.now (P.shelf pages.old) (P.shelf pages.new)) }
+    ensures last { IfOk result (λ grown. last_block grown + 1 ≡ (P.shelf pages.new).used) }
     ensures apart { IfOk result IsApart }
     ensures reason { IfErr result (AppendFails (P.shelf pages.new) (P.faults pages.old) (P.faults pages.new)) }
     ensures appends { Appends P.tells (P.shelf pages.old) (P.shelf pages.new) (P.faults pages.old) (P.faults pages.new) }
-    ensures untroubled { OnOk result (P.faults pages.new ≡ P.faults pages.old) }
+    ensures untroubled { result ≢ Err Refusal.DiskFault → P.faults pages.new ≡ P.faults pages.old }
 {
     if entries.len() <= MOST {
         let at = add_node(pages, leaf, entries)?;

@@ -1,4 +1,4 @@
-ghost use Rattle.std.specs.Prelude.{◌≡◌, ◌≤◌, ◌<◌, ◌⊎◌, ℕ, Bool, true, false, List, length, nat_lt, Option, IsTrue, IfOk, IfErr, IfSome, OnOk, MatchOption};
+ghost use Rattle.std.specs.Prelude.{◌≡◌, ◌≤◌, ◌<◌, ◌⊎◌, ℕ, Bool, true, false, List, length, nat_lt, Option, IsTrue, IfOk, IfErr, IfSome, OnOk, MatchOption, ◌≢◌, Err, ◌+◌};
 ghost use Rattle.std.specs.List.{list_all};
 ghost use Rattle.std.specs.Option.{is_some};
 ghost use Rattle.forest_model.specs.declared.refusal.Refusal.TheVariants as Refusal;
@@ -6,7 +6,7 @@ ghost use Rattle.node_page.specs.Nodes.{Entry, IsNode};
 ghost use Rattle.btree_cow.specs.Shelf.{is_stored};
 ghost use Rattle.btree_cow.specs.Trees.{TreeAt};
 ghost use Rattle.btree_cow.specs.Causes.{Way, IsAmong, IsNoNode, BreaksTree, Reason};
-ghost use Rattle.btree_cow.specs.Walks.{IsChoice, edge};
+ghost use Rattle.btree_cow.specs.Walks.{IsChoice, Reaches, edge};
 ghost use Rattle.btree_cow.specs.Finds.{Finds, IsWithin, next_place, lie_under};
 
 use crate::Pages;
@@ -36,11 +36,12 @@ pub(crate) fn walk<P: Pages>(pages: &mut P, from: Place, aim: Aim) -> Result<Wal
     requires { from.depth ≤ 9 }
     ensures found { IsTrue P.tells → (ok : ℕ → ℕ → Bool) (height least low : ℕ) (high : Option ℕ) (entries : List Entry) → TreeAt ok (P.shelf pages.old) height least from.at low high entries → IfOk result (λ w. Finds ok (P.shelf pages.old) aim.with aim.up aim.chunk entries w.entry w.second) }
     ensures reason { IfErr result (λ why. (root : ℕ) → (IsTrue P.tells → Way (P.shelf pages.old) from.depth root from.at) → Reason P.tells (P.shelf pages.old).file (BreaksTree (P.shelf pages.old) root) (P.faults pages.old) (P.faults pages.new) why) }
+    ensures reached { IsTrue P.tells → IfOk result (λ w. Reaches (P.shelf pages.old) aim.with aim.up aim.chunk from.at w.entry) }
     ensures within { IfOk result (λ w. IfSome w.second (λ place. IsWithin P.tells (P.shelf pages.old) from place)) }
     ensures all { aim.with ≡ true → aim.chunk ≡ edge aim.up → IfOk result (λ w. IsTrue (is_some w.entry)) }
     ensures kept { P.shelf pages.new ≡ P.shelf pages.old }
     ensures counts { P.faults pages.old ≤ P.faults pages.new }
-    ensures untroubled { OnOk result (P.faults pages.new ≡ P.faults pages.old) }
+    ensures untroubled { result ≢ Err Refusal.DiskFault → P.faults pages.new ≡ P.faults pages.old }
 {
     let mut page = Page::of(b"");
     let mut here = from;
@@ -73,7 +74,7 @@ fn node_at<P: Pages>(pages: &mut P, at: u64, page: &mut Page) -> Result<NodeHead
     ensures reason { IfErr result (Reason P.tells (P.shelf pages.old).file (λ block. (block ≡ at) × IsNoNode (P.shelf pages.old) at) (P.faults pages.old) (P.faults pages.new)) }
     ensures kept { P.shelf pages.new ≡ P.shelf pages.old }
     ensures counts { P.faults pages.old ≤ P.faults pages.new }
-    ensures untroubled { OnOk result (P.faults pages.new ≡ P.faults pages.old) }
+    ensures untroubled { result ≢ Err Refusal.DiskFault → P.faults pages.new ≡ P.faults pages.old }
 {
     pages.page(at, 2, page)?;
     let Some(head) = node_of(page) else {

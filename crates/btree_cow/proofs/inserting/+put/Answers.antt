@@ -1,7 +1,9 @@
 use Rattle.std.proofs.Common.{refl}
 use Rattle.std.proofs.lemmas.Result.{err_from_is_err_and}
+use Rattle.btree_cow.proofs.Finds.{ok_never}
 use Rattle.btree_cow.proofs.Additions.{appends_after, read_fails}
 use Rattle.btree_cow.proofs.Insertions.{leaf_rises, leaf_put, inner_rises, inner_some, inner_put, nowhere_fails, below_fails}
+use Rattle.btree_cow.proofs.Copies.{copied_leaf, copied_inner}
 use Rattle.btree_cow.proofs.inserting.+put.Goals as goal
 
 pub returns-in_err-node-clause-reason : goal.returns-in_err-node-clause-reason
@@ -27,7 +29,7 @@ returns-in_err-grown-clause-reason g t c =
     let p = err_from_is_err_and c.from_residual-in_err-grown.result c.from_residual-in_err-grown.ensures.1 in
     rw (p.1, p.2)
     (below_fails g.P.Pages.tells c.args.left _ c.args.at c.args.chunk c.in-Some.place c.in-Some.child _ _ _ (g.P.Pages.shelf c.args.pages.now) (g.P.Pages.shelf c.read_node.new.pages) (g.P.Pages.shelf c.put.new.pages)
-    c.in_ok-node.node.leaf c.in_ok-node.node.entries.items c.as_slice-2.result.now _ c.in_ok-node.ensures.kept c.in_ok-node.ensures.untroubled c.in-Some.ensures.lower.0 refl c.if-node.false c.in_ok-node.ensures.node c.as_slice-2.ensures.value
+    c.in_ok-node.node.leaf c.in_ok-node.node.entries.items c.as_slice-2.result.now _ c.in_ok-node.ensures.kept (c.in_ok-node.ensures.untroubled (ok_never _ _)) c.in-Some.ensures.lower.0 refl c.if-node.false c.in_ok-node.ensures.node c.as_slice-2.ensures.value
     c.in-Some.ensures.found c.in_err-grown.ensures.reason)
 
 pub store-requires-2-clause-rise : goal.store-requires-2-clause-rise
@@ -49,4 +51,16 @@ store-requires-2-clause-some g t c =
 pub returns-clause-appends : goal.returns-clause-appends
 returns-clause-appends g t c =
     appends_after g.P.Pages.tells (g.P.Pages.shelf c.args.pages.now) (g.P.Pages.shelf c.read_node.new.pages) (g.P.Pages.shelf c.put.new.pages) (g.P.Pages.shelf c.store-2.new.pages) _ _ _ _
-    c.in_ok-node.ensures.kept c.in_ok-node.ensures.untroubled c.in_ok-grown.ensures.appends c.store-2.ensures.appends
+    c.in_ok-node.ensures.kept (c.in_ok-node.ensures.untroubled (ok_never _ _)) c.in_ok-grown.ensures.appends c.store-2.ensures.appends
+
+pub returns-then-node-clause-copied : goal.returns-then-node-clause-copied
+returns-then-node-clause-copied g t c = λ told.
+    copied_leaf g.P.Pages.tells (g.P.Pages.shelf c.args.pages.now) (g.P.Pages.shelf c.read_node.new.pages) (g.P.Pages.shelf c.store.new.pages) c.store.result c.args.left c.args.at c.args.chunk c.args.value c.in_ok-node.node.leaf c.in_ok-node.node.entries.items
+    c.put_entry.new.entries.items c.as_slice.result.now told c.in_ok-node.ensures.kept c.if-node.true c.in_ok-node.ensures.node c.as_slice.ensures.value c.put_entry.ensures (c.store.ensures.makes told)
+
+pub returns-clause-copied : goal.returns-clause-copied
+returns-clause-copied g t c = λ told.
+    copied_inner g.P.Pages.tells (g.P.Pages.shelf c.args.pages.now) (g.P.Pages.shelf c.read_node.new.pages) (g.P.Pages.shelf c.put.new.pages) (g.P.Pages.shelf c.store-2.new.pages) c.store-2.result c.args.left _ c.args.at c.args.chunk c.args.value
+    c.in-Some.place c.in-Some.child c.in_ok-node.node.leaf c.in_ok-node.node.entries.items c.as_slice-2.result.now c.replace_child.new.children.items c.as_slice-3.result.now c.in_ok-grown.grown told
+    c.in_ok-node.ensures.kept c.in-Some.ensures.lower.0 refl c.if-node.false c.in_ok-node.ensures.node c.as_slice-2.ensures.value c.in-Some.ensures.found (c.in_ok-grown.ensures.copied told) (c.store-2.ensures.appends.later told)
+    c.as_slice-3.ensures.value c.replace_child.ensures (c.store-2.ensures.makes told)

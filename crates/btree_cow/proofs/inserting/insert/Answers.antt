@@ -1,6 +1,9 @@
+use Rattle.std.proofs.Common.{refl}
+use Rattle.std.specs.Prelude.{Ok}
 use Rattle.std.proofs.lemmas.Result.{err_from_is_err_and}
 use Rattle.btree_cow.proofs.Growth.{later_on}
 use Rattle.btree_cow.proofs.Insertions.{root_fails, root_stands, root_grows}
+use Rattle.btree_cow.proofs.Copies.{few_ok, inserts_first, inserts_one, inserts_two}
 use Rattle.btree_cow.proofs.inserting.insert.Goals as goal
 
 pub returns-in_err-block-clause-stands : goal.returns-in_err-block-clause-stands
@@ -22,3 +25,24 @@ returns-in-Two-clause-inserted g c = λ told ok entries well okay tree.
 
 pub returns-in-Two-clause-later : goal.returns-in-Two-clause-later
 returns-in-Two-clause-later g c = λ told. later_on _ _ _ (c.in_ok-block.ensures.appends.later told) (c.add_node-in-Two.ensures.appends.later told)
+
+pub returns-in_default-clause-copies : goal.returns-in_default-clause-copies
+returns-in_default-clause-copies g c = λ told. inserts_first c.add_node.result c.args.root c.args.chunk c.args.value _ _ _ c.in_default.is refl (c.add_node.ensures.added told)
+
+pub returns-in-One-clause-copies : goal.returns-in-One-clause-copies
+returns-in-One-clause-copies g c = λ told.
+    inserts_one c.args.root c.in-Some.at c.args.chunk c.args.value c.in-One.block (g.P.Pages.shelf c.args.pages.now) (g.P.Pages.shelf c.put.new.pages) c.in_ok-block.field-0 c.in-Some.is c.in-One.is (c.in_ok-block.ensures.copied told)
+
+pub returns-in-Two-clause-copies : goal.returns-in-Two-clause-copies
+returns-in-Two-clause-copies g c = λ told.
+    inserts_two c.add_node-in-Two.result c.args.root c.in-Some.at c.args.chunk c.args.value c.in-Two.left c.in-Two.right _ (g.P.Pages.shelf c.args.pages.now) (g.P.Pages.shelf c.put.new.pages) (g.P.Pages.shelf c.add_node-in-Two.new.pages) c.in_ok-block.field-0
+    c.in-Some.is c.in-Two.is refl (c.add_node-in-Two.ensures.appends.later told) (c.in_ok-block.ensures.copied told) (c.add_node-in-Two.ensures.added told)
+
+pub returns-in-One-clause-few : goal.returns-in-One-clause-few
+returns-in-One-clause-few g c = λ told. few_ok (Ok c.in-One.block) c.args.root c.args.chunk c.args.value (g.P.Pages.shelf c.args.pages.now) (g.P.Pages.shelf c.put.new.pages) (returns-in-One-clause-copies g c told)
+
+pub returns-in-Two-clause-few : goal.returns-in-Two-clause-few
+returns-in-Two-clause-few g c = λ told. few_ok c.add_node-in-Two.result c.args.root c.args.chunk c.args.value (g.P.Pages.shelf c.args.pages.now) (g.P.Pages.shelf c.add_node-in-Two.new.pages) (returns-in-Two-clause-copies g c told)
+
+pub returns-in_default-clause-few : goal.returns-in_default-clause-few
+returns-in_default-clause-few g c = λ told. few_ok c.add_node.result c.args.root c.args.chunk c.args.value (g.P.Pages.shelf c.args.pages.now) (g.P.Pages.shelf c.add_node.new.pages) (returns-in_default-clause-copies g c told)

@@ -3,7 +3,7 @@ use Rattle.std.specs.Prelude.{Option, None}
 use Rattle.std.proofs.lemmas.Result.{err_from_is_err_and}
 use Rattle.btree_cow.specs.Trees.{Tree}
 use Rattle.btree_cow.proofs.Breaks.{only_disk}
-use Rattle.btree_cow.proofs.Answered.{reason_from, value_found}
+use Rattle.btree_cow.proofs.Answered.{reads_value, reason_from, value_found}
 use Rattle.btree_cow.proofs.look_up.find.Goals as goal
 
 pub returns-in_err-found-clause-stands : goal.returns-in_err-found-clause-stands
@@ -26,3 +26,7 @@ returns-clause-found g c = λ told ok entries tree.
     let there = subst (λ (root : Option ℕ). Tree ok (g.P.Pages.shelf c.args.pages.now) root entries) c.in-Some.is tree in
     c.value_at.ensures
     ∙ value_found ok (g.P.Pages.shelf c.args.pages.now) c.args.chunk entries c.in_ok-found.found.entry c.in_ok-found.found.second (c.in_ok-found.ensures.found told ok there.0 1 0 None entries there.1)
+
+pub returns-clause-read : goal.returns-clause-read
+returns-clause-read g c = λ told.
+    reads_value (g.P.Pages.shelf c.args.pages.now) c.args.root c.in-Some.at c.args.chunk c.in_ok-found.found.entry c.value_at.result c.in-Some.is (c.in_ok-found.ensures.reached told) c.value_at.ensures

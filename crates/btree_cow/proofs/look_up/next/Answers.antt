@@ -5,6 +5,7 @@ use Rattle.btree_cow.specs.Shelf.{Shelf}
 use Rattle.btree_cow.specs.Causes.{Reason, BreaksFrom, Way}
 use Rattle.btree_cow.specs.Finds.{IsWithin}
 use Rattle.btree_cow.specs.declared.walk.Place.{Place}
+use Rattle.btree_cow.proofs.Finds.{ok_never}
 use Rattle.btree_cow.proofs.Breaks.{only_disk}
 use Rattle.btree_cow.proofs.Answered.{reason_from, reason_then}
 use Rattle.btree_cow.proofs.look_up.next.Given
@@ -33,7 +34,7 @@ again g c =
     let second = c.in_err-first.ensures.reason c.in-Some.at (subst (λ (m : Shelf). IsTrue g.P.Pages.tells → Way m c.in-Some-second.place.depth c.in-Some.at c.in-Some-second.place.at) (sym c.in_ok-near.ensures.kept) (λ told. way.way told c.in-Some.at refl)) in
     reason_from g.P.Pages.tells s s.file (g.P.Pages.faults c.args.pages.now) (g.P.Pages.faults c.walk-2.new.pages) c.in-Some.at c.args.root c.in_err-first.field-0.0 c.in-Some.is
     (reason_then g.P.Pages.tells s (g.P.Pages.shelf c.walk.new.pages) (g.P.Pages.faults c.args.pages.now) (g.P.Pages.faults c.walk.new.pages) (g.P.Pages.faults c.walk-2.new.pages) c.in-Some.at c.in_err-first.field-0.0
-    c.in_ok-near.ensures.kept c.in_ok-near.ensures.untroubled second)
+    c.in_ok-near.ensures.kept (c.in_ok-near.ensures.untroubled (ok_never _ _)) second)
 
 pub returns-in_err-first-clause-reason : goal.returns-in_err-first-clause-reason
 returns-in_err-first-clause-reason g c =

@@ -1,8 +1,10 @@
 use Rattle.std.proofs.Common.{refl}
 use Rattle.std.proofs.lemmas.Result.{err_from_is_err_and}
+use Rattle.btree_cow.proofs.Finds.{ok_never}
 use Rattle.btree_cow.proofs.Additions.{appends_after, read_fails}
 use Rattle.btree_cow.proofs.Insertions.{nowhere_fails, below_fails}
 use Rattle.btree_cow.proofs.Removals.{inner_removed, refill_failed}
+use Rattle.btree_cow.proofs.Takes.{taken_inner, taken_leaf}
 use Rattle.btree_cow.proofs.removing.+remove_from.Goals as goal
 
 pub returns-in_err-node-clause-reason : goal.returns-in_err-node-clause-reason
@@ -20,7 +22,7 @@ returns-in_err-shrunk-clause-reason g t c =
     let p = err_from_is_err_and c.from_residual-in_err-shrunk.result c.from_residual-in_err-shrunk.ensures.1 in
     rw (p.1, p.2)
     (below_fails g.P.Pages.tells c.args.left _ c.args.at c.args.chunk c.in-Some.place c.in-Some.child _ _ _ (g.P.Pages.shelf c.args.pages.now) (g.P.Pages.shelf c.read_node.new.pages) (g.P.Pages.shelf c.remove_from.new.pages)
-    c.in_ok-node.node.leaf c.in_ok-node.node.entries.items c.as_slice.result.now _ c.in_ok-node.ensures.kept c.in_ok-node.ensures.untroubled c.in-Some.ensures.lower.0 refl c.if-node.false c.in_ok-node.ensures.node c.as_slice.ensures.value
+    c.in_ok-node.node.leaf c.in_ok-node.node.entries.items c.as_slice.result.now _ c.in_ok-node.ensures.kept (c.in_ok-node.ensures.untroubled (ok_never _ _)) c.in-Some.ensures.lower.0 refl c.if-node.false c.in_ok-node.ensures.node c.as_slice.ensures.value
     c.in-Some.ensures.found c.in_err-shrunk.ensures.reason)
 
 pub returns-clause-removes : goal.returns-clause-removes
@@ -32,10 +34,21 @@ returns-clause-removes g t c = λ told.
 pub returns-clause-reason : goal.returns-clause-reason
 returns-clause-reason g t c =
     refill_failed g.P.Pages.tells c.args.left c.args.at (g.P.Pages.shelf c.args.pages.now) (g.P.Pages.shelf c.read_node.new.pages) (g.P.Pages.shelf c.remove_from.new.pages) (g.P.Pages.shelf c.pass_up.new.pages) _ _ _ _ c.pass_up.result
-    c.in_ok-node.node.leaf c.in_ok-node.node.entries.items c.in-Some.ensures.lower.0 c.in_ok-node.ensures.kept c.in_ok-node.ensures.untroubled c.in_ok-shrunk.ensures.untroubled c.if-node.false c.in_ok-node.ensures.node
+    c.in_ok-node.node.leaf c.in_ok-node.node.entries.items c.in-Some.ensures.lower.0 c.in_ok-node.ensures.kept (c.in_ok-node.ensures.untroubled (ok_never _ _)) (c.in_ok-shrunk.ensures.untroubled (ok_never _ _)) c.if-node.false c.in_ok-node.ensures.node
     c.in_ok-shrunk.ensures.appends c.pass_up.ensures.reason
 
 pub returns-clause-appends : goal.returns-clause-appends
 returns-clause-appends g t c =
     appends_after g.P.Pages.tells (g.P.Pages.shelf c.args.pages.now) (g.P.Pages.shelf c.read_node.new.pages) (g.P.Pages.shelf c.remove_from.new.pages) (g.P.Pages.shelf c.pass_up.new.pages) _ _ _ _
-    c.in_ok-node.ensures.kept c.in_ok-node.ensures.untroubled c.in_ok-shrunk.ensures.appends c.pass_up.ensures.appends
+    c.in_ok-node.ensures.kept (c.in_ok-node.ensures.untroubled (ok_never _ _)) c.in_ok-shrunk.ensures.appends c.pass_up.ensures.appends
+
+pub returns-then-node-clause-taken : goal.returns-then-node-clause-taken
+returns-then-node-clause-taken g t c = λ told.
+    taken_leaf g.P.Pages.tells (g.P.Pages.shelf c.args.pages.now) (g.P.Pages.shelf c.read_node.new.pages) (g.P.Pages.shelf c.remove_from_leaf.new.pages) c.remove_from_leaf.result c.args.left c.args.at c.args.chunk c.in_ok-node.node.leaf c.in_ok-node.node.entries.items
+    told c.in_ok-node.ensures.kept c.if-node.true c.in_ok-node.ensures.node (c.remove_from_leaf.ensures.taken told c.if-node.true)
+
+pub returns-clause-taken : goal.returns-clause-taken
+returns-clause-taken g t c = λ told.
+    taken_inner g.P.Pages.tells (g.P.Pages.shelf c.args.pages.now) (g.P.Pages.shelf c.read_node.new.pages) (g.P.Pages.shelf c.remove_from.new.pages) (g.P.Pages.shelf c.pass_up.new.pages) c.pass_up.result c.args.left _ c.args.at c.args.chunk c.in-Some.place c.in-Some.child
+    c.in_ok-node.node.leaf c.in_ok-node.node.entries.items c.as_slice.result.now c.in_ok-shrunk.shrunk told c.in_ok-node.ensures.kept c.in-Some.ensures.lower.0 refl c.if-node.false c.in_ok-node.ensures.node c.as_slice.ensures.value
+    c.in-Some.ensures.found (c.in_ok-shrunk.ensures.taken told) (c.pass_up.ensures.appends.later told) (c.pass_up.ensures.passed told c.if-node.false)

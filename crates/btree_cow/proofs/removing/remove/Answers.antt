@@ -1,7 +1,9 @@
+use Rattle.std.specs.Prelude.{Ok, None, Some}
 use Rattle.std.proofs.lemmas.Result.{err_from_is_err_and}
 use Rattle.btree_cow.proofs.Growth.{later_on}
 use Rattle.btree_cow.proofs.Insertions.{root_fails, root_stands}
 use Rattle.btree_cow.proofs.Removals.{short_present, stored_present}
+use Rattle.btree_cow.proofs.Takes.{few_removed, takes_absent, takes_none, takes_short, takes_stored}
 use Rattle.btree_cow.proofs.removing.remove.Goals as goal
 
 pub returns-in_err-remove_from-clause-stands : goal.returns-in_err-remove_from-clause-stands
@@ -26,3 +28,31 @@ returns-in-Short-clause-absent g c = λ told ok entries tree absent.
 
 pub returns-in-Short-clause-later : goal.returns-in-Short-clause-later
 returns-in-Short-clause-later g c = λ told. later_on _ _ _ (c.in_ok-remove_from.ensures.appends.later told) (c.root_of.ensures.appends.later told)
+
+pub returns-in-Absent-clause-copies : goal.returns-in-Absent-clause-copies
+returns-in-Absent-clause-copies g c = λ told.
+    takes_absent c.args.root c.in-Some.at c.args.chunk (g.P.Pages.shelf c.args.pages.now) (g.P.Pages.shelf c.remove_from.new.pages) c.in_ok-remove_from.field-0 c.in-Some.is c.in-Absent.is (c.in_ok-remove_from.ensures.taken told)
+
+pub returns-in-Stored-clause-copies : goal.returns-in-Stored-clause-copies
+returns-in-Stored-clause-copies g c = λ told.
+    takes_stored c.args.root c.in-Some.at c.args.chunk c.in-Stored.block (g.P.Pages.shelf c.args.pages.now) (g.P.Pages.shelf c.remove_from.new.pages) c.in_ok-remove_from.field-0 c.in-Some.is c.in-Stored.is (c.in_ok-remove_from.ensures.taken told)
+
+pub returns-in-Short-clause-copies : goal.returns-in-Short-clause-copies
+returns-in-Short-clause-copies g c = λ told.
+    takes_short c.root_of.result c.args.root c.in-Some.at c.args.chunk c.in-Short.node (g.P.Pages.shelf c.args.pages.now) (g.P.Pages.shelf c.remove_from.new.pages) (g.P.Pages.shelf c.root_of.new.pages) c.in_ok-remove_from.field-0
+    c.in-Some.is c.in-Short.is (c.root_of.ensures.appends.later told) (c.in_ok-remove_from.ensures.taken told) (c.root_of.ensures.left told)
+
+pub returns-in_default-clause-few : goal.returns-in_default-clause-few
+returns-in_default-clause-few g c = λ told. few_removed (Ok None) c.args.root c.args.chunk (g.P.Pages.shelf c.args.pages.now) (g.P.Pages.shelf c.args.pages.now) (takes_none c.args.root c.args.chunk (g.P.Pages.shelf c.args.pages.now) c.in_default.is)
+
+pub returns-in-Absent-clause-few : goal.returns-in-Absent-clause-few
+returns-in-Absent-clause-few g c = λ told.
+    few_removed (Ok (Some c.in-Some.at)) c.args.root c.args.chunk (g.P.Pages.shelf c.args.pages.now) (g.P.Pages.shelf c.remove_from.new.pages) (returns-in-Absent-clause-copies g c told)
+
+pub returns-in-Stored-clause-few : goal.returns-in-Stored-clause-few
+returns-in-Stored-clause-few g c = λ told.
+    few_removed (Ok (Some c.in-Stored.block)) c.args.root c.args.chunk (g.P.Pages.shelf c.args.pages.now) (g.P.Pages.shelf c.remove_from.new.pages) (returns-in-Stored-clause-copies g c told)
+
+pub returns-in-Short-clause-few : goal.returns-in-Short-clause-few
+returns-in-Short-clause-few g c = λ told.
+    few_removed c.root_of.result c.args.root c.args.chunk (g.P.Pages.shelf c.args.pages.now) (g.P.Pages.shelf c.root_of.new.pages) (returns-in-Short-clause-copies g c told)

@@ -1,6 +1,6 @@
-use Rattle.std.proofs.Common.{refl, ◌∙◌, ap, ◌≡◌, Bool, true, false, subst}
+use Rattle.std.proofs.Common.{inl, inr, refl, ◌∙◌, ap, ◌≡◌, Bool, true, false, subst}
 use Rattle.std.specs.List.{list_all}
-use Rattle.std.specs.Prelude.{nat_lt, IsTrue}
+use Rattle.std.specs.Prelude.{None, nat_lt, IsTrue}
 use Rattle.std.proofs.lemmas.Result.{err_from_is_err_and}
 use Rattle.std.proofs.lemmas.Option.{MatchOption-at_some, MatchOption-at_none}
 use Rattle.forest_model.specs.declared.refusal.Refusal.TheVariants as Refusal
@@ -9,7 +9,8 @@ use Rattle.btree_cow.specs.Shelf.{Shelf, is_stored}
 use Rattle.btree_cow.specs.Causes.{IsNoNode, Reason}
 use Rattle.btree_cow.specs.Walks.{IsChoice}
 use Rattle.btree_cow.specs.declared.node_search.Choice.{Choice}
-use Rattle.btree_cow.proofs.Walking.{walk_starts, walk_goes_on, ends_in_leaf, ends_before, leaf_has, not_before, breaks_as_no_node, breaks_as_inner}
+use Rattle.btree_cow.proofs.Finds.{ok_never}
+use Rattle.btree_cow.proofs.Walking.{reaches, walk_starts, walk_goes_on, ends_in_leaf, ends_before, leaf_has, not_before, breaks_as_no_node, breaks_as_inner}
 use Rattle.btree_cow.proofs.walk.walk.Goals as goal
 
 pub loop-head-init : goal.loop-head-init
@@ -82,10 +83,28 @@ loop-head-preserved g c =
     c.in-Some.choice c.in-Some.is (c.in_ok-choice.ensures.chosen given.0 given.2 given.1) in
     record {
       kept = c.in_ok-head.ensures.kept ∙ before.kept;
-      untroubled = c.in_ok-head.ensures.untroubled ∙ before.untroubled;
+      untroubled = (c.in_ok-head.ensures.untroubled (ok_never _ _)) ∙ before.untroubled;
       walk = rw c.nearer-second.ensures
           (walk_goes_on g.P.Pages.tells (g.P.Pages.shelf c.args.pages.now) c.args.from c.loop-head.here c.loop-head.second c.args.aim.with c.args.aim.up c.args.aim.chunk c.node_at.new.page given.0 c.in-Some.choice.child c.in-Some.choice.sibling
           before.walk c.in_ok-choice.ensures.shallow inner
           (λ told. subst (λ (s : Shelf). is_stored s 2 c.loop-head.here.at c.node_at.new.page) before.kept (c.in_ok-head.ensures.stored told))
           choice);
     }
+
+pub returns-then-head-clause-reached : goal.returns-then-head-clause-reached
+returns-then-head-clause-reached g c = λ told.
+    let before = c.loop-head.invariant in
+    let given = c.in_ok-head.ensures.given in
+    let leaf : IsNode c.node_at.new.page true given.0 = subst (λ (b : Bool). IsNode c.node_at.new.page b given.0) c.if-head.true given.2 in
+    reaches g.P.Pages.tells (g.P.Pages.shelf c.args.pages.now) c.args.from c.loop-head.here c.loop-head.second c.args.aim.with c.args.aim.up c.args.aim.chunk c.nearest_in-entry.result before.walk
+    (inl (given.0, (c.node_at.new.page, subst (λ (s : Shelf). is_stored s 2 c.loop-head.here.at c.node_at.new.page) before.kept (c.in_ok-head.ensures.stored told), leaf), c.nearest_in-entry.ensures true given.0 leaf given.1)) told
+
+pub returns-in_default-clause-reached : goal.returns-in_default-clause-reached
+returns-in_default-clause-reached g c = λ told.
+    let before = c.loop-head.invariant in
+    let given = c.in_ok-head.ensures.given in
+    let inner : IsNode c.node_at.new.page false given.0 = subst (λ (b : Bool). IsNode c.node_at.new.page b given.0) c.if-head.false given.2 in
+    let none = MatchOption-at_none ((c.args.aim.up ≡ false) × IsTrue (list_all (λ (e : Entry). nat_lt c.args.aim.chunk e.0) given.0)) (λ (o : Choice). IsChoice c.args.aim.up c.args.aim.chunk given.0 o.child o.sibling)
+    c.in_default.is (c.in_ok-choice.ensures.chosen given.0 given.2 given.1) in
+    reaches g.P.Pages.tells (g.P.Pages.shelf c.args.pages.now) c.args.from c.loop-head.here c.loop-head.second c.args.aim.with c.args.aim.up c.args.aim.chunk None before.walk
+    (inr (given.0, (c.node_at.new.page, subst (λ (s : Shelf). is_stored s 2 c.loop-head.here.at c.node_at.new.page) before.kept (c.in_ok-head.ensures.stored told), inner), none.0, none.1, refl)) told
