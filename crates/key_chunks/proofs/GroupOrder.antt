@@ -50,6 +50,18 @@ unfolding groups
 some_groups zero key = omega arith
 some_groups (suc more) key = omega arith
 
+-- so many groups have one chunk each
+count_groups : (n : ℕ) (x : List ℕ) → length (groups n x) ≡ suc n
+unfolding groups
+count_groups zero x = refl
+count_groups (suc n) x = ap suc (count_groups n (drop 7 x))
+
+pub list_long : (store : ℕ) (key : List ℕ) → 1 ≤ length key → length (chunks_of store key) ≡ 1 + (length key + 6) / 7
+list_long store key some = omega (arith, count_groups ((length key - 1) / 7) key)
+
+pub list_short : (list key : List ℕ) → length key ≤ 3500 → length list ≡ 1 + (length key + 6) / 7 → length list ≤ 501
+list_short list key few is = omega (arith, is)
+
 step : (x y : List ℕ) (rest : Ordering) → AreBytes x → AreBytes y → rest ≡ slice_cmp nat_cmp (drop 7 x) (drop 7 y) → ordering_then (nat_cmp (first_chunk x) (first_chunk y)) rest ≡ slice_cmp nat_cmp x y
 step x y rest small small' is = rw (first_order x y small small', is) (windows 7 0 x y)
 
