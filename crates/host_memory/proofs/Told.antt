@@ -1,5 +1,5 @@
 -- What each call of a host in memory does to its disk.
-use Rattle.std.proofs.Common.{◌≡◌, ◌≢◌, ◌<◌, ◌≤◌, ℕ, Bool, true, false, List, [], ◌∷◌, ◌++◌, length, take, Ok, Err, refl, arith, length-append, sym, ◌∙◌, ap, subst, inl, inr, ⊎_elim, eqb}
+use Rattle.std.proofs.Common.{◌≡◌, ◌≢◌, ◌<◌, ◌≤◌, ℕ, Bool, true, false, List, [], ◌∷◌, ◌++◌, length, take, Ok, Err, refl, arith, sym, ◌∙◌, ap, subst, inl, inr, ⊎_elim, eqb}
 use Rattle.std.specs.Prelude.{cond, Result, OnOk, OnErr}
 use Rattle.std.specs.Result.{is_err}
 use Rattle.std.specs.Bool.{OnTrue, OnFalse}
@@ -10,7 +10,7 @@ use Rattle.std.proofs.lemmas.List.{take_all, append-nil}
 use Rattle.block_host.specs.declared.failed.Failed.{Failed}
 use Rattle.block_host.specs.Disk.{Image, Elapses, Says}
 use Rattle.block_host.specs.Calls as call
-use Rattle.host_memory.specs.Pending.{FileState, Leaves, Does, no_file, appended, slot_written, cut_to, emptied, adopted, made_sure}
+use Rattle.host_memory.specs.Pending.{FileState, Leaves, Does, no_file, appended, slot_written, cut_to, adopted}
 use Rattle.host_memory.specs.Held.{held, Becomes, Stays}
 use Rattle.host_memory.specs.Memory.{Shows, disk_of, Leaves-present}
 use Rattle.host_memory.specs.declared.change.Change.{Change}
@@ -283,14 +283,6 @@ syncs_not state past file = record {
   said = refl;
   time = stays_in_time state state past (λ said. said ≡ state.said.items) (stays state);
 }
-
-pub given_err : {E P : Type 0} (r : Result (Unit {0}) E) → is_err r ≡ true → OnErr r P → P
-given_err (Ok x) is p = absurd cc
-given_err (Err e) is p = p
-
-pub given_ok : {E P : Type 0} (r : Result (Unit {0}) E) → is_err r ≡ false → OnOk r P → P
-given_ok (Ok x) is p = p
-given_ok (Err e) is p = absurd cc
 
 -- the removal of a file that nobody has made
 pub removes_none : (old new : State) (past : List State) (file : ℕ) → Stays old new → held old file ≡ no_file → call.Removes file true (disk_of old past) (disk_of new (old ∷ past))
