@@ -1,23 +1,21 @@
 -- All passes still agree after each kind of step.
-use Rattle.std.proofs.Common.{◌≡◌, ◌≢◌, ℕ, zero, suc, ◌+◌, ◌-◌, ◌<◌, ◌≤◌, Bool, true, false, cond, List, [], ◌∷◌, ◌++◌, map, length, drop, set, sym, refl, ap, ◌∙◌, subst, arith, length-append, append-nil, append_assoc}
-use Rattle.std.specs.Prelude.{Option, Some, None, slice_get, sum_by, count_by, filter, find, ◌&&◌, ◌==◌, nat_le, option_map, option_to_list, if◌then◌else◌}
+use Rattle.std.proofs.Common.{◌≡◌, ◌≢◌, ℕ, zero, suc, ◌+◌, ◌-◌, ◌<◌, cond, List, [], ◌∷◌, ◌++◌, length, set, sym, refl, ap, ◌∙◌, subst, arith, append-nil}
+use Rattle.std.specs.Prelude.{Option, sum_by, filter, ◌&&◌, ◌==◌, nat_le, option_to_list, if◌then◌else◌}
 use Rattle.std.specs.List.{AllByRecursion, flat_map}
-use Rattle.std.proofs.lemmas.List.Sums.{sum_by-append, sum_by-cons}
-use Rattle.std.proofs.lemmas.Bool.{eqb-true, eq-eqb}
+use Rattle.std.proofs.lemmas.List.Sums.{sum_by-append}
 use mathlib.Core.Option.{some, some-injective}
 use lib.ListN.{get_elem?}
 use Rattle.forest_model.specs.State.{Durable}
-use Rattle.forest_model.specs.Notes.{place_of, is_changed, is_stopped, tried, times_made, ends_of, points_of, known}
-use Rattle.forest_model.specs.History.{Run, history, IsSection, IsNoted, IsHistory, AgreesWith, Agree, IsSpent, Enters, Closes, all_shares}
+use Rattle.forest_model.specs.Notes.{place_of, is_changed, is_stopped, tried, times_made, ends_of, points_of}
+use Rattle.forest_model.specs.History.{IsSection, IsNoted, IsHistory, AgreesWith, Agree, IsSpent, all_shares}
 use Rattle.forest_model.specs.declared.held.Point.{Point}
 use Rattle.forest_model.specs.declared.held.Section.{Section}
 use Rattle.forest_model.specs.declared.held.Notes.{Notes}
-use Rattle.forest_model.specs.declared.state.State.{State}
 use Rattle.turnstile.specs.Noting.{noted, without_share, told_all, joined, spent_notes}
 use Rattle.turnstile.specs.Rule.{notes_in, gives_share, has_share, takes_in, nothing_left}
 use Rattle.turnstile.specs.declared.berth.Knows.{Knows}
 use Rattle.turnstile.proofs.Lists.{sum_set, sum_snoc, others_nothing, sum_alone, each_set, each_snoc, all_append, all_first, all_second, all_map, flat_append, filter_append}
-use Rattle.atomic_table.proofs.Lists.{set_else, at_set}
+use Rattle.atomic_table.proofs.Lists.{set_else}
 
 -- once place count: 1 at the places 1 to the count
 abbrev pub once : ℕ → ℕ → ℕ

@@ -1,12 +1,11 @@
 -- The three ways to leave lead from a history to a history, and what was noted before stays noted.
-use Rattle.std.proofs.Common.{◌≡◌, ℕ, zero, suc, ◌+◌, ◌<◌, ◌≤◌, Bool, true, false, List, [], ◌∷◌, ◌++◌, map, length, drop, sym, refl, ap, ◌∙◌, subst, ◌⊎◌, ⊎_elim, arith, length-append, append-nil}
+use Rattle.std.proofs.Common.{◌≡◌, ℕ, suc, ◌+◌, ◌<◌, ◌≤◌, List, [], ◌∷◌, ◌++◌, map, length, sym, refl, ap, ◌∙◌, subst, ⊎_elim, arith, length-append, append-nil}
 use Rattle.std.specs.Prelude.{Option, Some, None, slice_get, IfSome, IsTrue, is_some, Contains}
-use Rattle.std.specs.List.{AllByRecursion}
 use Rattle.forest_model.specs.Covers.{Weakens}
 use Rattle.forest_model.specs.State.{Durable, durable_of}
 use Rattle.forest_model.specs.Step.{step_of}
 use Rattle.forest_model.specs.Notes.{place_of, own_durable, is_changed}
-use Rattle.forest_model.specs.History.{HaveNotFallen, IsUntroubled, Answers, Run, Numbered, history, durables_from, tried_durables, base_of_deed, base_after, StandsIn, DeedIn, IsSection, IsNoted, IsLast, IsHistory, Updates, UpdatesSoundly, Keeps, KeepsSoundly, Stops, StopsSoundly}
+use Rattle.forest_model.specs.History.{HaveNotFallen, IsUntroubled, Answers, Run, Numbered, history, durables_from, tried_durables, base_of_deed, base_after, StandsIn, DeedIn, IsSection, IsNoted, IsHistory, Updates, UpdatesSoundly, Keeps, KeepsSoundly, Stops, StopsSoundly}
 use Rattle.forest_model.specs.declared.held.Point.{Point}
 use Rattle.forest_model.specs.declared.held.Deed.{Deed}
 use Rattle.forest_model.specs.declared.held.Deed.TheVariants.{Changed, Same, Stopped}

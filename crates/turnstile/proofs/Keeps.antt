@@ -1,30 +1,28 @@
 -- Each kind of step keeps the rule of the table.
-use Rattle.std.proofs.Common.{◌≡◌, ◌≢◌, ℕ, zero, suc, ◌+◌, ◌-◌, ◌*◌, ◌%◌, ◌<◌, ◌≤◌, Bool, true, false, cond, List, [], ◌∷◌, ◌++◌, length, set, eqb, eq-eqb, ne_eqb, sym, refl, ap, ◌∙◌, subst, arith, length-append, ⊎_elim, inl, inr}
+use Rattle.std.proofs.Common.{◌≡◌, ◌≢◌, ℕ, zero, suc, ◌+◌, ◌*◌, ◌%◌, ◌<◌, ◌≤◌, Bool, true, false, cond, List, [], ◌∷◌, ◌++◌, length, set, eqb, sym, refl, ap, ◌∙◌, subst, arith, length-append}
 use Rattle.std.specs.Prelude.{Option, Some, None, is_some, IfSome, MatchOption, sum_by, slice_index, slice_set, slice_get}
 use mathlib.Core.Option.{some, none, some-injective, some-ne-none}
-use mathlib.Core.Option as maybe
 use lib.ListN.{get_elem?}
 use prog.Atomic.{either}
-use Rattle.atomic_table.specs.Table.{State, Me, Step, step, Act, keeps, takes, gives, stepped, homes_after, put_back, rest, Valid, carried_after, Allows, Splits, Joins, opening, Final, Seen}
+use Rattle.atomic_table.specs.Table.{State, Step, step, Act, keeps, takes, gives, stepped, put_back, rest, Valid, carried_after, Allows, Splits, Joins, opening, Final, Seen}
 use Rattle.atomic_table.proofs.Lists.{exchanged, set_again, set_else}
 use Rattle.forest_model.specs.Covers.{Weakens}
 use Rattle.forest_model.specs.State.{Durable}
 use Rattle.forest_model.specs.Notes.{place_of}
-use Rattle.forest_model.specs.History.{IsHistory, IsNoted, AgreesWith, IsSpent, durables_from, Agree, Enters, Closes, all_shares, Updates, UpdatesSoundly, Keeps, KeepsSoundly, Stops, StopsSoundly, Starts}
+use Rattle.forest_model.specs.History.{IsNoted, AgreesWith, IsSpent, durables_from, Agree, Enters, Closes, all_shares, Updates, UpdatesSoundly, Keeps, KeepsSoundly, Stops, StopsSoundly, Starts}
 use Rattle.forest_model.specs.declared.held.Point.{Point}
 use Rattle.forest_model.specs.declared.held.Deed.{Deed}
 use Rattle.forest_model.specs.declared.held.Deed.TheVariants.{Changed, Same, Stopped}
 use Rattle.forest_model.specs.declared.held.Section.{Section}
-use Rattle.forest_model.specs.declared.held.Notes.{Notes}
 use Rattle.forest_model.specs.declared.call.Call.{Call}
 use Rattle.forest_model.specs.declared.call.Reply.{Reply}
-use Rattle.turnstile.specs.Noting.{section, noted}
-use Rattle.turnstile.specs.Rule.{Kept, IsSeated, IsPlaced, busy_number, Entered, EntersOrLooks, Looks, Leaves, left_with, notes_in, gives_share, has_share, takes_in, nothing_left, first_knows, Mine}
+use Rattle.turnstile.specs.Noting.{section}
+use Rattle.turnstile.specs.Rule.{Kept, IsSeated, IsPlaced, busy_number, EntersOrLooks, Looks, Leaves, left_with, notes_in, gives_share, has_share, takes_in, nothing_left, first_knows, Mine}
 use Rattle.turnstile.specs.declared.berth.Berth.{Berth}
 use Rattle.turnstile.specs.declared.berth.Knows.{Knows}
-use Rattle.turnstile.proofs.Lists.{sum_set, sum_snoc, at_most_sum, sum_nothing, sum_alone, others_nothing, each_set, each_snoc}
+use Rattle.turnstile.proofs.Lists.{sum_set, sum_snoc, at_most_sum, sum_alone, others_nothing, each_set, each_snoc}
 use Rattle.turnstile.proofs.Histories.{no_stop, same_fall, own_stop, changed_noted, changed_section, changed_own, changed_history, same_noted, same_own, same_history, stopped_noted, stopped_section, stopped_own, stopped_history}
-use Rattle.turnstile.proofs.Agrees.{once, makes, tries, rewritten, left_agree, split_agree, join_agree, alone_agree}
+use Rattle.turnstile.proofs.Agrees.{once, makes, rewritten, left_agree, split_agree, join_agree, alone_agree}
 use Rattle.turnstile.proofs.Knowing.{enters, closes}
 use Rattle.std.proofs.lemmas.Bool.Decides.{nat_tests}
 

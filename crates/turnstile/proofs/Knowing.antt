@@ -1,13 +1,13 @@
 -- What a pass knows is what the history has, and the updates after it lead to the value as it stands.
-use Rattle.std.proofs.Common.{◌≡◌, ℕ, zero, suc, ◌+◌, ◌<◌, ◌≤◌, Bool, true, false, cond, List, [], ◌∷◌, ◌++◌, length, drop, sym, refl, ap, ◌∙◌, subst, arith}
-use Rattle.std.specs.Prelude.{Option, Some, None, slice_get, count_by, find, ◌&&◌, ◌==◌, nat_le, option_map, if◌then◌else◌}
+use Rattle.std.proofs.Common.{◌≡◌, ℕ, zero, suc, ◌<◌, ◌≤◌, Bool, true, false, cond, List, [], ◌∷◌, length, drop, sym, refl, ap, ◌∙◌, subst, arith}
+use Rattle.std.specs.Prelude.{Option, Some, None, slice_get, count_by, find, ◌&&◌, ◌==◌, nat_le, option_map}
 use Rattle.std.specs.List.{AllByRecursion, flat_map}
 use Rattle.std.proofs.lemmas.List.Sums.{sum_by-cons}
 use Rattle.std.proofs.lemmas.Bool.{eqb-true, eq-eqb}
 use Rattle.std.proofs.lemmas.Bool.Decides.{nat_tests}
 use Rattle.forest_model.specs.State.{Durable}
-use Rattle.forest_model.specs.Notes.{place_of, is_changed, times_made, ends_of, points_of, known}
-use Rattle.forest_model.specs.History.{Run, history, StandsIn, IsNoted, IsHistory, AgreesWith, Agree, Enters, Closes}
+use Rattle.forest_model.specs.Notes.{place_of, is_changed, ends_of, points_of}
+use Rattle.forest_model.specs.History.{Run, history, IsNoted, IsHistory, AgreesWith, Agree, Enters, Closes}
 use Rattle.forest_model.specs.declared.held.Point.{Point}
 use Rattle.forest_model.specs.declared.held.Section.{Section}
 use Rattle.forest_model.specs.declared.held.Notes.{Notes}

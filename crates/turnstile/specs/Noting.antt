@@ -1,5 +1,5 @@
 -- How notes grow: a section is noted, notes are cut in two, and two are made one.
-use Rattle.std.specs.Prelude.{◌≡◌, ℕ, ◌+◌, ◌-◌, List, [], ◌∷◌, ◌++◌, Option, Some, None}
+use Rattle.std.specs.Prelude.{◌+◌, ◌-◌, [], ◌∷◌, ◌++◌, None}
 use Rattle.std.specs.List.{flat_map}
 use Rattle.forest_model.specs.Notes.{ends_of}
 use Rattle.forest_model.specs.State.{new_state, usual_limits}

@@ -1,5 +1,5 @@
 -- What callers see of a turnstile and of its passes.
-use Rattle.std.specs.Prelude.{◌≡◌, ℕ, List, [], ◌∷◌, Option, Some, None}
+use Rattle.std.specs.Prelude.{◌≡◌, ℕ, [], ◌∷◌, Option, Some, None}
 use Rattle.forest_model.specs.declared.held.Deed.{Deed}
 use Rattle.forest_model.specs.declared.held.Notes.{Notes}
 use Rattle.turnstile.specs.declared.berth.Berth.{Berth}

@@ -1,5 +1,5 @@
-use Rattle.std.proofs.Common.{rules, ◌≡◌, refl, ◌∙◌, sym, ap, subst}
-use Rattle.std.specs.Prelude.{Some, IsSome}
+use Rattle.std.proofs.Common.{◌≡◌, refl, ◌∙◌, sym, ap, subst}
+use Rattle.std.specs.Prelude.{IsSome}
 use mathlib.Core.Option.{some-injective}
 use Rattle.forest_model.specs.History.{Closes}
 use Rattle.turnstile.specs.Passes.{first_of, notes_of}

@@ -1,4 +1,4 @@
-use Rattle.std.proofs.Common.{rules, arith, ◌≡◌, ◌<◌, ◌∙◌, ap}
+use Rattle.std.proofs.Common.{arith, ◌<◌, ◌∙◌, ap}
 use Rattle.turnstile.specs.Passes.{first_of}
 use Rattle.turnstile.proofs.Keeps.{join_ok, looks}
 use Rattle.turnstile.proofs.turnstile.Turnstile.join.Goals as goal

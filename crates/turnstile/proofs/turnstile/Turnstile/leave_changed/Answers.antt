@@ -1,7 +1,7 @@
-use Rattle.std.proofs.Common.{rules, arith, ◌≡◌, ◌<◌, ◌∙◌, ap, sym}
+use Rattle.std.proofs.Common.{arith, ◌<◌, ◌∙◌, ap, sym}
 use Rattle.forest_model.specs.History.{Updates, UpdatesSoundly}
 use Rattle.forest_model.specs.declared.held.Deed.TheVariants.{Changed}
-use Rattle.turnstile.specs.Passes.{first_of, taken_of, OfTaken}
+use Rattle.turnstile.specs.Passes.{first_of, taken_of}
 use Rattle.turnstile.proofs.Takings.{of_taken, taken_is}
 use Rattle.turnstile.proofs.Keeps.{changed_ok}
 use Rattle.turnstile.proofs.turnstile.Turnstile.leave_changed.Goals as goal

@@ -1,4 +1,4 @@
-use Rattle.std.proofs.Common.{rules, arith, ◌≡◌, List, [], ◌∷◌}
+use Rattle.std.proofs.Common.{rules, arith, ◌≡◌, [], ◌∷◌}
 use Rattle.std.proofs.lemmas.Grind.{common_steps}
 use Rattle.turnstile.proofs.Keeps.{new_by}
 use Rattle.turnstile.proofs.turnstile.Turnstile.new.Goals as goal

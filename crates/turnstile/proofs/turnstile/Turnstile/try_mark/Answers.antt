@@ -1,4 +1,4 @@
-use Rattle.std.proofs.Common.{rules, arith, ◌≡◌, ◌<◌}
+use Rattle.std.proofs.Common.{arith, ◌<◌}
 use Rattle.turnstile.specs.Passes.{first_of}
 use Rattle.turnstile.proofs.Keeps.{enters_ok}
 use Rattle.turnstile.proofs.turnstile.Turnstile.try_mark.Goals as goal
