@@ -40,6 +40,6 @@ pub record IsSealed (revision at kind : ℕ) (payload : List ℕ) (block : Block
   pub bytes : block.bytes ≡ with_checksum (sealed_front revision at kind payload)
   pub whole : IsTrue (is_whole block.bytes)
 
--- a torn block of a file, which is sealed for neither its revision nor its number
+-- a torn block of a file, which isn't sealed for both its revision and its number
 abbrev pub IsTorn : ℕ → ℕ → Block → Type 0
 IsTorn file at block = (kind : ℕ) (payload : List ℕ) → IsSealed file at kind payload block → ⊥

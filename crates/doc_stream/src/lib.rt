@@ -5,9 +5,8 @@
 //!
 //! `scan` gives all records of a range of blocks with their addresses, and `read` the one at an address, in the file or in
 //! the open block. They promise the very records that the blocks hold, and else a refusal with its cause: a fault of the
-//! view, memory, or exactly the block that breaks the records, so that none stand there, whatever lies behind it. Each block
-//! is read and checked once. The laws say that what was put is what is read, and that what a range holds is one list of
-//! records, which stand at their addresses.
+//! view, memory, or exactly the block that breaks the records, so that none stand there, whatever lies behind it. The laws
+//! say that what was put is what is read, and that what a range holds is one list of records, which stand at their addresses.
 #![tactic(auto)]
 
 mod heads;

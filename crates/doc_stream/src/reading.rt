@@ -15,7 +15,7 @@ use forest_model::{Rec, Recs, Refusal};
 use std::alloc::Global;
 
 /// The records in the record blocks of a file's revision from block `from` up to, not including, `to`, in order, each with
-/// its address. Blocks of other kinds are passed over. Each block is read once.
+/// its address. Blocks of other kinds are passed over.
 pub fn scan<V: View>(
     alloc: Global,
     view: &mut V,

@@ -28,7 +28,7 @@ impl Model for Tail {
 }
 
 impl Tail {
-    /// An open block of this number, with no bytes. Its memory is taken here, so that no put asks for any.
+    /// An open block of this number, with no bytes. Its own memory is taken here, once for all puts.
     pub fn new(alloc: Global, next: u64) -> Result<Tail, Refusal>
         requires { next ≤ 2 ^ 41 }
         ensures value { IfOk result (λ tail. tail ≡ record { number = next; bytes = [] }) }

@@ -39,7 +39,7 @@ names_key r = (r.kind == 1) || (r.kind == 2)
 unfoldable pub pairs_named : List Rec → ℕ
 pairs_named records = finite.len {X = ℕ} (finite.from_entries {R = key_cmp} (map (λ r. (key_at r.store r.key, 0)) (filter names_key records)))
 
--- The records since the last flush, one after another, name at least the threshold of different pairs.
+-- The records from the block on that the last header names, one after another, name at least the threshold of different pairs.
 pub record IsFlushDue (s : State) (file : File) : Type 0 where
   pub records : List Rec
   pub are_records : IsTrue (list_all is_record records)

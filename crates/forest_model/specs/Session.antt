@@ -118,7 +118,7 @@ said_of call (replies.Caught number) = says.Caught number
 said_of call (replies.Switched number) = says.Switched number
 said_of call replies.Cancelled = says.Cancelled
 
--- what is said where documents or records went to the copier's new file
+-- what is said where documents or records may have gone to the copier's new file
 abbrev pub is_copied : Said → Bool
 is_copied (says.Copied count left) = nat_lt 0 count
 is_copied (says.Caught number) = true
@@ -268,7 +268,7 @@ abbrev pub place_of_copy : Session → Copier → Said → ℕ
 place_of_copy w c (says.Copied count left) = c.place
 place_of_copy w c said = w.state.place
 
--- The copier's new file may be full where something would go to it: which line meets it isn't determined, its numbers show it.
+-- The copier's new file may be full where something may go to it. Which line meets that isn't determined: the model has no new file while it is copied, so it bounds the numbers and ties them to none.
 pub record MeetsFullCopy (w : Session) (file : File) (line : Line) (next : Session) (t : Told) : Type 0 where
   pub copier : Copier
   pub there : w.copier ≡ Some copier

@@ -16,7 +16,7 @@ use Rattle.forest_model.specs.declared.call.Call.TheVariants.{Set, Delete}
 use Rattle.forest_model.specs.declared.state.State.{State}
 use Rattle.forest_model.specs.declared.state.Store.{Store}
 use Rattle.model_laws.specs.Laws.{state_after}
-use Rattle.model_laws.specs.Answered.{IsItemKey, IsItemContent, MayWrite, MayDraw, StoreDraws, HasKey, NoCause, all_bytes}
+use Rattle.model_laws.specs.Answered.{IsItemKey, IsItemContent, MayWrite, MayDraw, MayDrawSeq, HasKey, NoCause, all_bytes}
 use Rattle.model_laws.specs.Writes.{OneByOne, call_of_item}
 use Rattle.model_laws.proofs.Conditions.{some_is}
 use Rattle.model_laws.proofs.Free.{free_step, free_answered}
@@ -54,7 +54,7 @@ ready_after s at m bytes count rest all sum h =
     }
 
 -- a store that may come further may come one further
-draws_one_more : (s : State) (at : StoreRef) (count all : ℕ) → IsReady s at (count + 1) all → StoreDraws s at.store 1
+draws_one_more : (s : State) (at : StoreRef) (count all : ℕ) → IsReady s at (count + 1) all → MayDrawSeq s at.store 1
 draws_one_more s at count all h =
     let found = (some_is (store_of s.stores at.store)).0 h.there in
     let st : Store = found.0 in

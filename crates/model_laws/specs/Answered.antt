@@ -54,8 +54,8 @@ MayDraw n = n < 2 ^ 62 - 1
 abbrev pub HasStore : State → ℕ → Type 0
 HasStore s id = OfStore (store_of s.stores id) (λ st. Unit {0})
 
-abbrev pub StoreDraws : State → ℕ → ℕ → Type 0
-StoreDraws s id n = OfStore (store_of s.stores id) (λ st. MayDraw (st.seq + n))
+abbrev pub MayDrawSeq : State → ℕ → ℕ → Type 0
+MayDrawSeq s id n = OfStore (store_of s.stores id) (λ st. MayDraw (st.seq + n))
 
 -- a store has this name
 abbrev pub HasName : List ℕ → List Store → Type 0
@@ -114,12 +114,12 @@ HasRoom s file bytes = TakesBlocks s file ((s.loose + bytes) / 4064)
 -- What must hold for a call to be answered: no cause of a refusal does.
 abbrev pub NoCause : State → File → Call → Type 0
 NoCause s file (Set at key meta body) =
-    MayWrite at × IsKey key × IsContent meta body × StoreDraws s at.store 1 × MayDraw (s.place + 1)
+    MayWrite at × IsKey key × IsContent meta body × MayDrawSeq s at.store 1 × MayDraw (s.place + 1)
     × HasRoom s file (24 + length key + length meta + length body)
 NoCause s file (Delete at key) =
-    MayWrite at × IsKey key × StoreDraws s at.store 1 × MayDraw (s.place + 1) × HasKey s at.store key × HasRoom s file (24 + length key)
+    MayWrite at × IsKey key × MayDrawSeq s at.store 1 × MayDraw (s.place + 1) × HasKey s at.store key × HasRoom s file (24 + length key)
 NoCause s file (Batch at items) =
-    MayWrite at × AllByRecursion IsItemKey items × AllByRecursion IsItemContent items × StoreDraws s at.store (length items) × MayDraw (s.place + 1)
+    MayWrite at × AllByRecursion IsItemKey items × AllByRecursion IsItemContent items × MayDrawSeq s at.store (length items) × MayDraw (s.place + 1)
     × FindsEach (λ key. is_some (doc_at s.documents at.store key)) items × HasRoom s file (all_bytes items)
 NoCause s file (Get at key) = IsKey key × HasStore s at.store × HasKey s at.store key
 NoCause s file (BySeq at seq) = HasStore s at.store × HasSeq s at.store seq

@@ -65,27 +65,6 @@ OthersStay = (s : State) (file later : File) (at by : StoreRef) (key meta body o
 abbrev pub NothingNewMeans : Type 0
 NothingNewMeans = (s : State) → IsTrue (nothing_new s) ↔ ((s.stores ≡ s.last.stores) × (s.documents ≡ s.last.documents))
 
--- A rollback's state has the stores and documents of the named commit, and the commits up to it. Nothing is copied, before and after.
-pub record IsRolledBack (s after : State) (number : ℕ) : Type 0 where
-  pub target : CommitRow
-  pub newer : List CommitRow
-  pub older : List CommitRow
-  pub named : target.number ≡ number
-  pub among : retained s ≡ newer ++ target ∷ older
-  pub commits : retained after ≡ target ∷ older
-  pub stores : after.stores ≡ target.stores
-  pub documents : after.documents ≡ target.documents
-  -- drawn numbers stay, and the file
-  pub drawn : (after.next_commit ≡ s.next_commit) × (after.next_store ≡ s.next_store) × (after.next_ticket ≡ s.next_ticket)
-  pub file : (after.revision ≡ s.revision) × (after.generation ≡ s.generation) × (after.limits ≡ s.limits)
-  pub idle : (s.copying ≡ None) × (after.copying ≡ None)
-  -- nothing changes, or a header is written
-  pub written : (after ≡ s) ⊎ ((after.place ≡ s.place + 1) × (after.kept ≡ s.next_store) × (after.loose ≡ 0))
-
-abbrev pub RollbackReturns : Type 0
-RollbackReturns = (s : State) (file : File) (at : StoreRef) (number : ℕ)
-    → reply_to s file (Rollback at number) ≡ Rolled number → IsRolledBack s (state_after s file (Rollback at number)) number
-
 -- a run of calls, each over blocks of its own
 abbrev pub after_all : State → List (File × Call) → State
 after_all s [] = s
@@ -117,23 +96,6 @@ BeginDraws = (s : State) (file : File) (at : StoreRef) (ticket base : ℕ) → r
 abbrev pub StoreDraws : Type 0
 StoreDraws = (s : State) (file : File) (name : List ℕ) (read_only : Bool) (at : StoreRef) → reply_to s file (StoreOpen name read_only) ≡ Store at
     → (state_after s file (StoreOpen name read_only) ≡ s) ⊎ ((at.store ≡ s.next_store) × (at.store < (state_after s file (StoreOpen name read_only)).next_store))
-
--- A switch drops the commits before the last and the running compaction; the stores, the documents and what is uncommitted of them stay.
-pub record IsSwitched (s after : State) (number : ℕ) : Type 0 where
-  pub answers : number ≡ s.last.number
-  pub commits : retained after ≡ s.last ∷ []
-  pub stores : after.stores ≡ s.stores
-  pub documents : after.documents ≡ s.documents
-  pub numbers : (after.next_commit ≡ s.next_commit) × (after.next_store ≡ s.next_store) × (after.next_ticket ≡ s.next_ticket)
-  pub file : (after.revision ≡ s.revision + 1) × (after.generation ≡ s.generation + 1) × (after.limits ≡ s.limits)
-  pub idle : after.copying ≡ None
-  pub kept : after.kept ≡ s.next_store
-  pub open_block : s.loose < 4064 → after.loose ≡ s.loose
-  pub place : after.place ≡ s.place + 1
-
-abbrev pub SwitchKeeps : Type 0
-SwitchKeeps = (s : State) (file : File) (at : StoreRef) (ticket left number : ℕ)
-    → reply_to s file (Switch at ticket left) ≡ Switched number → IsSwitched s (state_after s file (Switch at ticket left)) number
 
 -- only a commit, a rollback and a switch change what is durable
 abbrev pub is_durable : Call → Bool

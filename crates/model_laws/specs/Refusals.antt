@@ -12,7 +12,7 @@ use Rattle.forest_model.specs.declared.refusal.Refusal.{Refusal}
 use Rattle.forest_model.specs.declared.refusal.Refusal.TheVariants.{NotFound, NoCommit, ReadOnly, KeyLength, BodyLength, Compacting, NoTicket, FileFull, NoStore, StoreCount, NameForm, NotCopied, Worn}
 use Rattle.forest_model.specs.declared.state.State.{State}
 use Rattle.model_laws.specs.Laws.{reply_to}
-use Rattle.model_laws.specs.Answered.{MayWrite, IsKey, IsContent, IsItemKey, IsItemContent, MayDraw, HasStore, StoreDraws, HasName, HasKey, HasSeq, FindsEach, IsNothingNew, HasAtSeq, IsRunning, all_bytes, TakesBlocks, HasRoom}
+use Rattle.model_laws.specs.Answered.{MayWrite, IsKey, IsContent, IsItemKey, IsItemContent, MayDraw, HasStore, MayDrawSeq, HasName, HasKey, HasSeq, FindsEach, IsNothingNew, HasAtSeq, IsRunning, all_bytes, TakesBlocks, HasRoom}
 use Rattle.model_laws.specs.Reads.{shown_ticket}
 
 -- P is asked, else the refusal comes; then the rest is asked
@@ -31,13 +31,13 @@ IsThere s number = (number ≡ s.last.number) × IsNothingNew s
 abbrev pub RefusedBy : State → File → Call → Refusal → Type 0
 RefusedBy s file (Set at key meta body) why =
     Asks (MayWrite at) ReadOnly why (Asks (IsKey key) KeyLength why (Asks (IsContent meta body) BodyLength why (Asks (HasStore s at.store) NoStore why
-    (Asks (StoreDraws s at.store 1 × MayDraw (s.place + 1)) Worn why (AsksRoom s file (24 + length key + length meta + length body) why)))))
+    (Asks (MayDrawSeq s at.store 1 × MayDraw (s.place + 1)) Worn why (AsksRoom s file (24 + length key + length meta + length body) why)))))
 RefusedBy s file (Delete at key) why =
     Asks (MayWrite at) ReadOnly why (Asks (IsKey key) KeyLength why (Asks (HasStore s at.store) NoStore why
-    (Asks (StoreDraws s at.store 1 × MayDraw (s.place + 1)) Worn why (Asks (HasKey s at.store key) NotFound why (AsksRoom s file (24 + length key) why)))))
+    (Asks (MayDrawSeq s at.store 1 × MayDraw (s.place + 1)) Worn why (Asks (HasKey s at.store key) NotFound why (AsksRoom s file (24 + length key) why)))))
 RefusedBy s file (Batch at items) why =
     Asks (MayWrite at) ReadOnly why (Asks (AllByRecursion IsItemKey items) KeyLength why (Asks (AllByRecursion IsItemContent items) BodyLength why
-    (Asks (HasStore s at.store) NoStore why (Asks (StoreDraws s at.store (length items) × MayDraw (s.place + 1)) Worn why
+    (Asks (HasStore s at.store) NoStore why (Asks (MayDrawSeq s at.store (length items) × MayDraw (s.place + 1)) Worn why
     (Asks (FindsEach (λ key. is_some (doc_at s.documents at.store key)) items) NotFound why (AsksRoom s file (all_bytes items) why))))))
 RefusedBy s file (Get at key) why = Asks (IsKey key) KeyLength why (Asks (HasStore s at.store) NoStore why (Asks (HasKey s at.store key) NotFound why ⊥))
 RefusedBy s file (BySeq at seq) why = Asks (HasStore s at.store) NoStore why (Asks (HasSeq s at.store seq) NotFound why ⊥)

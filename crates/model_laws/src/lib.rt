@@ -4,12 +4,12 @@
 //! is proved here of the very definitions that the engine's contracts cite.
 #![tactic(auto)]
 
-ghost use Rattle.model_laws.specs.Laws.{RefusedLeaves, ReadsLeave, PlaceTells, RulesStay, SetIsGot, OthersStay, NothingNewMeans, RollbackReturns, DrawnStay, SeqStays, CommitDraws, BeginDraws, StoreDraws, SwitchKeeps, DurableStays, RecordsKeepHeader};
+ghost use Rattle.model_laws.specs.Laws.{RefusedLeaves, ReadsLeave, PlaceTells, RulesStay, SetIsGot, OthersStay, NothingNewMeans, DrawnStay, SeqStays, CommitDraws, BeginDraws, StoreDraws, DurableStays, RecordsKeepHeader};
 ghost use Rattle.model_laws.specs.Answered.{AnsweredExactly};
 ghost use Rattle.model_laws.specs.Refusals.{RefusedExactly};
 ghost use Rattle.model_laws.specs.Writes.{SetDraws, DeleteTakes, BatchIsItems};
 ghost use Rattle.model_laws.specs.Tables.{OpenFinds, OpenMakes, RemoveTakes};
-ghost use Rattle.model_laws.specs.Commits.{CommitKeeps, CommitAgain, BeginNames, DeltaTells, CancelEnds};
+ghost use Rattle.model_laws.specs.Commits.{CommitKeeps, CommitAgain, RollbackReturns, RollbackAgain, BeginNames, DeltaTells, SwitchKeeps, CancelEnds};
 ghost use Rattle.model_laws.specs.Reads.{GetTells, BySeqTells, OneDocument, InfoTells, MarkersTell, SnapsTell, SnapAtShows, SnapLatestShows};
 
 /// A refused call and a call that reads leave the state, and any other raises the place by one.
@@ -90,7 +90,8 @@ pub fn nothing_new()
 
 /// A rollback gives the named commit's stores and documents, and the commits up to it.
 pub fn rollbacks()
-    ensures { RollbackReturns }
+    ensures returned { RollbackReturns }
+    ensures again { RollbackAgain }
 {}
 
 /// A commit number, a store id and a ticket that was drawn never comes again, and a sequence number only behind a rollback.
