@@ -7,3 +7,6 @@ mod blocks;
 mod seen;
 
 pub use blocks::ToldBlocks;
+
+#[cfg(test)]
+mod tests;
