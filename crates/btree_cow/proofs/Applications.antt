@@ -1,7 +1,8 @@
 -- Changes one after another.
-use Rattle.std.proofs.Common.{◌≡◌, ◌⊎◌, inl, inr, sym, ap, ◌++◌, append_assoc, ℕ, ◌<◌, ◌≤◌, ◌+◌, ◌*◌, Bool, true, List, [], ◌∷◌, length, drop, get_or, refl, ◌∙◌, subst, arith}
+use Rattle.std.proofs.Common.{◌≡◌, ◌⊎◌, inl, inr, sym, ap, ◌++◌, append_assoc, ℕ, ◌<◌, ◌≤◌, ◌+◌, ◌*◌, Bool, true, true≢false, List, [], ◌∷◌, length, drop, get_or, refl, ◌∙◌, subst, arith}
 use Rattle.std.specs.Prelude.{Option, Some, None, IsTrue, Result, IfOk}
 use Rattle.std.specs.List.{list_all}
+use Rattle.std.specs.Option.{is_none}
 use Rattle.std.proofs.lemmas.Bool.{and_parts}
 use Rattle.std.proofs.lemmas.List.{append-nil, drop_all, drop_more}
 use Rattle.std.proofs.lemmas.Option.{none-some, same_Some}
@@ -9,11 +10,11 @@ use Rattle.block_host.specs.Disk.{risen}
 use Rattle.forest_model.specs.declared.refusal.Refusal.{Refusal}
 use Rattle.node_page.specs.Nodes.{Entry}
 use Rattle.btree_cow.specs.Shelf.{Shelf, Later}
-use Rattle.btree_cow.specs.Trees.{Tree}
+use Rattle.btree_cow.specs.Trees.{Tree, value_of}
 use Rattle.btree_cow.specs.Causes.{is_full}
 use Rattle.btree_cow.specs.Copies.{Inserts}
 use Rattle.btree_cow.specs.Takes.{ApplyFails, MakesChange, Runs, Takes}
-use Rattle.btree_cow.specs.Changes.{Change, ChangeFails, SameLimits, StaysWell, after_change, after_changes, is_well, put_well}
+use Rattle.btree_cow.specs.Changes.{Change, ChangeFails, SameLimits, is_absent, StaysWell, after_change, after_changes, is_well, put_well}
 use Rattle.btree_cow.proofs.Finds.{all_so}
 use Rattle.btree_cow.proofs.Copies.{few_of_insert}
 use Rattle.btree_cow.proofs.Takes.{few_of_removal}
@@ -28,6 +29,8 @@ pub record Applies (tells : Bool) (old new : Shelf) (before after : ℕ) (root a
   pub done : List Change
   pub split : changes ≡ done ++ rest
   pub run : IsTrue tells → Runs done root old new at
+  pub still : IsTrue tells → (ok : ℕ → ℕ → Bool) (entries : List Entry) → Tree ok old root entries → IsTrue (list_all (is_absent entries) changes)
+      → (at ≡ root) × (new ≡ old) × IsTrue (list_all (is_absent entries) rest)
   pub stands : IsTrue tells → (ok : ℕ → ℕ → Bool) (entries : List Entry) → StaysWell ok → IsTrue (put_well ok old.used changes) → Tree ok old root entries
       → (now : List Entry) × Tree ok new at now × (after_changes now rest ≡ after_changes entries changes) × IsTrue (put_well ok new.used rest)
 
@@ -46,6 +49,19 @@ pub made_removal : (change : Change) (root : Option ℕ) (old new : Shelf) (r : 
 made_removal (chunk, None) root old new r is made = made
 made_removal (chunk, Some other) root old new r is made = absurd (none-some other (sym is))
 
+none_of : {A : Type 0} (o : Option A) → is_none o ≡ true → o ≡ None
+none_of None h = refl
+none_of (Some a) h = absurd (true≢false (sym h))
+
+pub absent_parts : (entries : List Entry) (change : Change) → is_absent entries change ≡ true → (change.1 ≡ None) × (value_of entries change.0 ≡ None)
+absent_parts entries change h =
+    let parts = and_parts (is_none change.1) (is_none (value_of entries change.0)) h in
+    (none_of change.1 parts.0, none_of (value_of entries change.0) parts.1)
+
+pub still_whole : (tells : Bool) (old new : Shelf) (x y : ℕ) (root at : Option ℕ) (changes rest : List Change) → Applies tells old new x y root at changes rest → IsTrue tells
+    → (ok : ℕ → ℕ → Bool) (entries : List Entry) → Tree ok old root entries → IsTrue (list_all (is_absent entries) changes) → (at ≡ root) × (new ≡ old)
+still_whole tells old new x y root at changes rest a told ok entries tree none = let so = a.still told ok entries tree none in (so.0, so.1)
+
 pub applies_start : (tells : Bool) (s : Shelf) (x : ℕ) (root : Option ℕ) (changes : List Change) → Applies tells s s x x root root changes changes
 applies_start tells s x root changes = record {
   later = λ told. later_same s;
@@ -54,6 +70,7 @@ applies_start tells s x root changes = record {
   done = [];
   split = refl;
   run = λ told. (refl, refl);
+  still = λ told ok entries tree none. (refl, refl, none);
   stands = λ told ok entries well puts tree. (entries, tree, refl, puts);
 }
 
@@ -91,14 +108,21 @@ stays ok at later (chunk, None) well le h = refl
 stays ok at later (chunk, Some value) well le h = well at later value le h
 
 pub applies_next : (tells : Bool) (old mid new : Shelf) (x y z : ℕ) (root at at' : Option ℕ) (changes rest : List Change) (c : Change) → Applies tells old mid x y root at changes (c ∷ rest) → (IsTrue tells → Later mid new) → SameLimits mid new → z ≡ y
-    → (IsTrue tells → (ok : ℕ → ℕ → Bool) (entries : List Entry) → StaysWell ok → IsTrue (is_well ok mid.used c) → Tree ok mid at entries → Tree ok new at' (after_change entries c)) → (IsTrue tells → MakesChange c at mid new at') → Applies tells old new x z root at' changes rest
-applies_next tells old mid new x y z root at at' changes rest c a later limits same stands made = record {
+    → (IsTrue tells → (ok : ℕ → ℕ → Bool) (entries : List Entry) → StaysWell ok → IsTrue (is_well ok mid.used c) → Tree ok mid at entries → Tree ok new at' (after_change entries c)) → (IsTrue tells → MakesChange c at mid new at')
+    → (IsTrue tells → (ok : ℕ → ℕ → Bool) (entries : List Entry) → Tree ok mid at entries → IsTrue (is_absent entries c) → (at' ≡ at) × (new ≡ mid)) → Applies tells old new x z root at' changes rest
+applies_next tells old mid new x y z root at at' changes rest c a later limits same stands made gone = record {
   later = λ told. later_on old mid new (a.later told) (later told);
   limits = record { lender = limits.lender ∙ a.limits.lender; file = limits.file ∙ a.limits.file; used = omega (arith, a.limits.used, limits.used); most = limits.most ∙ a.limits.most; max = limits.max ∙ a.limits.max };
   same = same ∙ a.same;
   done = a.done ++ c ∷ [];
   split = a.split ∙ sym (append_assoc a.done (c ∷ []) rest);
   run = λ told. runs_more a.done c root at at' old mid new (a.run told) (made told);
+  still = λ told ok entries tree none.
+      let so = a.still told ok entries tree none in
+      let parts = and_parts (is_absent entries c) (list_all (is_absent entries) rest) so.2 in
+      let here : Tree ok mid at entries = subst (λ (o : Option ℕ). Tree ok mid o entries) (sym so.0) (subst (λ (s : Shelf). Tree ok s root entries) (sym so.1) tree) in
+      let step = gone told ok entries here parts.0 in
+      (step.0 ∙ so.0, step.1 ∙ so.1, parts.1);
   stands = λ told ok entries well puts tree.
       let so = a.stands told ok entries well puts tree in
       let parts = and_parts (is_well ok mid.used c) (list_all (is_well ok mid.used) rest) so.3 in
@@ -119,10 +143,11 @@ applies_stands tells old mid x y root at changes rest ok entries Q told a tree s
 -- the changes that are left at an index
 pub left_next : (tells : Bool) (old mid new : Shelf) (x y z : ℕ) (root at at' : Option ℕ) (changes : List Change) (n : ℕ) (d : Change) → n < length changes → Applies tells old mid x y root at changes (drop n changes) → (IsTrue tells → Later mid new) → SameLimits mid new → z ≡ y
     → (IsTrue tells → (ok : ℕ → ℕ → Bool) (entries : List Entry) → StaysWell ok → IsTrue (is_well ok mid.used (get_or changes n d)) → Tree ok mid at entries → Tree ok new at' (after_change entries (get_or changes n d)))
-    → (IsTrue tells → MakesChange (get_or changes n d) at mid new at') → Applies tells old new x z root at' changes (drop (n + 1) changes)
-left_next tells old mid new x y z root at at' changes n d less a later limits same stands made =
+    → (IsTrue tells → MakesChange (get_or changes n d) at mid new at')
+    → (IsTrue tells → (ok : ℕ → ℕ → Bool) (entries : List Entry) → Tree ok mid at entries → IsTrue (is_absent entries (get_or changes n d)) → (at' ≡ at) × (new ≡ mid)) → Applies tells old new x z root at' changes (drop (n + 1) changes)
+left_next tells old mid new x y z root at at' changes n d less a later limits same stands made gone =
     applies_next tells old mid new x y z root at at' changes (drop (n + 1) changes) (get_or changes n d)
-    (subst (λ (l : List Change). Applies tells old mid x y root at changes l) (drop_more changes n d less) a) later limits same stands made
+    (subst (λ (l : List Change). Applies tells old mid x y root at changes l) (drop_more changes n d less) a) later limits same stands made gone
 
 pub left_stands : (tells : Bool) (old mid new : Shelf) (x y : ℕ) (root at : Option ℕ) (changes rest : List Change) (ok : ℕ → ℕ → Bool) (entries : List Entry) (why : Refusal) → IsTrue tells → Applies tells old mid x y root at changes rest → Tree ok old root entries
     → ((ok : ℕ → ℕ → Bool) (entries : List Entry) → Tree ok mid at entries → (why ≡ Refusal.DiskFault) ⊎ (why ≡ is_full new)) → (why ≡ Refusal.DiskFault) ⊎ (why ≡ is_full new)

@@ -28,3 +28,4 @@ mod Standing
 mod Stored
 mod Copies
 mod Takes
+mod Ways

@@ -1,11 +1,12 @@
 -- What changes make of the entries of a tree, and why one fails.
 use Rattle.std.specs.Prelude.{◌≡◌, ◌⊎◌, ℕ, ◌≤◌, Bool, true, ◌&&◌, not, ◌==◌, List, [], ◌∷◌, filter, nat_lt, Option, Some, None, IsTrue, if◌then◌else◌}
 use Rattle.std.specs.List.{list_all}
-use Rattle.std.specs.Option.{option_map_or}
+use Rattle.std.specs.Option.{is_none, option_map_or}
 use Rattle.block_host.specs.Disk.{risen}
 use Rattle.forest_model.specs.declared.refusal.Refusal.{Refusal}
 use Rattle.node_page.specs.Nodes.{Entry}
 use Rattle.btree_cow.specs.Shelf.{Shelf}
+use Rattle.btree_cow.specs.Trees.{value_of}
 use Rattle.btree_cow.specs.Causes.{BreaksFrom, is_full}
 
 -- with a value for a chunk, in place of an older one
@@ -61,3 +62,7 @@ is_well ok at c = option_map_or (λ (value : ℕ). ok at value) c.1 true
 
 abbrev pub put_well : (ℕ → ℕ → Bool) → ℕ → List Change → Bool
 put_well ok at changes = list_all (is_well ok at) changes
+
+-- the removal of a chunk that isn't there
+abbrev pub is_absent : List Entry → Change → Bool
+is_absent entries c = is_none c.1 && is_none (value_of entries c.0)

@@ -49,8 +49,8 @@ fn put<P: Appender>(
     store(pages, false, node.entries.as_slice())
 }
 
-/// Puts a value for a chunk, in place of an older one, and answers the new root. New nodes are appended, and no old one
-/// changes.
+/// Puts a value for a chunk, in place of an older one, and answers the new root, the last block of the file. A copy of
+/// each node on the way is appended, two where the old one was full, and a new root where that was; no old one changes.
 pub fn insert<P: Appender>(
     pages: &mut P,
     root: Option<u64>,

@@ -6,6 +6,10 @@
 //! that stands for the entries with the value for the chunk, and every node that it adds has at least 126 entries or
 //! is the root. A removal promises the same without the chunk, and no root where no entry is left. A run of changes
 //! promises what they make of the entries in their order.
+//!
+//! On any blocks it promises that a look-up answers what stands at the end of the chunk's way, each block of which is a
+//! node; that a change appends copies of the nodes on its way, with all their other children, and no block more; and
+//! that a damaged block lies below the root that was given, or below one that an earlier change of the same run made.
 #![tactic(auto)]
 
 mod applying;

@@ -1,20 +1,22 @@
-ghost use Rattle.std.specs.Prelude.{◌≡◌, ◌≤◌, ℕ, Bool, true, List, IsTrue, IfOk, IfErr, OnOk, ◌≢◌, Err, ◌+◌};
+ghost use Rattle.std.specs.Prelude.{false, Some, ◌≡◌, ◌≤◌, ℕ, Bool, true, List, IsTrue, IfOk, IfErr, OnOk, ◌≢◌, Err, ◌+◌};
 ghost use Rattle.forest_model.specs.declared.refusal.Refusal.TheVariants as Refusal;
 ghost use Rattle.node_page.specs.Nodes.{Entry};
 ghost use Rattle.btree_cow.specs.Trees.{Tree, value_of, nearest};
-ghost use Rattle.btree_cow.specs.Walks.{ReadsValue, edge};
+ghost use Rattle.btree_cow.specs.Walks.{ReadsValue, WayFor, edge};
 ghost use Rattle.btree_cow.specs.Finds.{value_in};
-ghost use Rattle.btree_cow.specs.Causes.{BreaksFrom, Reason};
+ghost use Rattle.btree_cow.specs.Causes.{BreaksFrom, IsNoNode, Reason};
 
 use crate::Pages;
 use crate::node_search::Aim;
 use crate::walk::{Place, walk};
 use forest_model::Refusal;
 
-/// The value of a chunk in the tree of a root.
+/// The value of a chunk in the tree of a root. On any blocks it is that of the leaf at the end of the chunk's way, and
+/// there is no answer where a block on this way is no node.
 pub fn find<P: Pages>(pages: &mut P, root: Option<u64>, chunk: u64) -> Result<Option<u64>, Refusal>
     ensures found { IsTrue P.tells → (ok : ℕ → ℕ → Bool) (entries : List Entry) → Tree ok (P.shelf pages.old) root entries → IfOk result (λ value. value ≡ value_of entries chunk) }
     ensures read { IsTrue P.tells → IfOk result (ReadsValue (P.shelf pages.old) root chunk) }
+    ensures broken { IsTrue P.tells → (at links block : ℕ) → root ≡ Some at → WayFor (P.shelf pages.old) false chunk links at block → IsNoNode (P.shelf pages.old) block → IfOk result (λ _. ⊥) }
     ensures stands { IsTrue P.tells → (ok : ℕ → ℕ → Bool) (entries : List Entry) → Tree ok (P.shelf pages.old) root entries → IfErr result (λ why. why ≡ Refusal.DiskFault) }
     ensures reason { IfErr result (Reason P.tells (P.shelf pages.old).file (BreaksFrom (P.shelf pages.old) root) (P.faults pages.old) (P.faults pages.new)) }
     ensures kept { P.shelf pages.new ≡ P.shelf pages.old }

@@ -164,7 +164,8 @@ fn root_of<P: Appender>(pages: &mut P, node: &Node) -> Result<Option<u64>, Refus
 }
 
 /// Removes a chunk, and answers the new root: none where nothing is left. An absent chunk leaves the root and appends
-/// nothing. New nodes are appended, and no old one changes.
+/// nothing. A copy of each node on the way is appended, joined with its neighbour where it got short, and no old one
+/// changes.
 pub fn remove<P: Appender>(
     pages: &mut P,
     root: Option<u64>,

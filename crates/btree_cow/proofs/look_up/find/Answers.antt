@@ -1,9 +1,11 @@
-use Rattle.std.proofs.Common.{refl, ◌∙◌, ℕ, subst}
-use Rattle.std.specs.Prelude.{Option, None}
+use Rattle.std.proofs.Common.{refl, sym, ◌∙◌, ℕ, subst}
+use Rattle.std.specs.Prelude.{Option, None, Ok}
+use Rattle.std.proofs.lemmas.Option.{none-some}
 use Rattle.std.proofs.lemmas.Result.{err_from_is_err_and}
 use Rattle.btree_cow.specs.Trees.{Tree}
 use Rattle.btree_cow.proofs.Breaks.{only_disk}
 use Rattle.btree_cow.proofs.Answered.{reads_value, reason_from, value_found}
+use Rattle.btree_cow.proofs.Ways.{never_read}
 use Rattle.btree_cow.proofs.look_up.find.Goals as goal
 
 pub returns-in_err-found-clause-stands : goal.returns-in_err-found-clause-stands
@@ -30,3 +32,9 @@ returns-clause-found g c = λ told ok entries tree.
 pub returns-clause-read : goal.returns-clause-read
 returns-clause-read g c = λ told.
     reads_value (g.P.Pages.shelf c.args.pages.now) c.args.root c.in-Some.at c.args.chunk c.in_ok-found.found.entry c.value_at.result c.in-Some.is (c.in_ok-found.ensures.reached told) c.value_at.ensures
+
+pub returns-clause-broken : goal.returns-clause-broken
+returns-clause-broken g c = λ told. never_read (Ok c.value_at.result) (g.P.Pages.shelf c.args.pages.now) c.args.root c.args.chunk (returns-clause-read g c told)
+
+pub returns-in_default-clause-broken : goal.returns-in_default-clause-broken
+returns-in_default-clause-broken g c = λ told at links block is way none. none-some at (sym c.in_default.is ∙ is)
