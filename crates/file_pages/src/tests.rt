@@ -1,0 +1,74 @@
+ghost use Rattle.std.specs.Prelude.{IfOk, IsTrue};
+ghost use Rattle.forest_model.specs.Records.{is_record};
+
+use super::*;
+use block_host::{Block, Host, View, seal};
+use btree_cow::{Docs, find};
+use doc_stream::Tail;
+use forest_model::{Bytes, Rec, Refusal};
+use host_memory::MemoryHost;
+use node_page::leaf_from;
+use std::alloc::Global;
+use std::test::Fail;
+
+// A record that deletes a key.
+fn deletion(alloc: Global) -> Result<Rec, Refusal>
+    ensures { IfOk result (λ rec. IsTrue (is_record rec)) }
+{
+    Ok(Rec {
+        kind: 2,
+        store: 7,
+        seq: 3,
+        key: Bytes::copy_of(alloc, b"key")?,
+        meta: Bytes::new(alloc),
+        body: Bytes::new(alloc),
+    })
+}
+
+// File 1 with a record as its block 0, and the open block behind it.
+fn put_record<H: Host>(alloc: Global, host: &mut H) -> Result<Tail, Fail> {
+    let mut tail = Tail::new(alloc, 0)?;
+    let mut full = Vec::new(alloc);
+    tail.put(&deletion(alloc)?, 1, &mut full)?;
+    if let Some(block) = tail.pad(1) {
+        host.append(1, &[block])?;
+    }
+    Ok(tail)
+}
+
+// A leaf of two entries as block 1 of file 1.
+fn leaf() -> Block {
+    let page = leaf_from(&[(5, 50), (6, 60)], true);
+    seal(2, 1, 1, &page.bytes[..page.len as usize])
+}
+
+// A view of file 1 with the record and the leaf.
+fn made<H: Host>(alloc: Global, host: &mut H) -> Result<(H::View, Tail), Fail> {
+    let tail = put_record(alloc, host)?;
+    host.append(1, &[leaf()])?;
+    Ok((host.view(1)?, tail))
+}
+
+// What the leaf has for two chunks, what block 0 has as a node, and whether the record is there.
+fn found<V: View>(alloc: Global, view: &mut V, tail: &Tail) -> [bool; 4] {
+    let mut docs = FileDocs::new(alloc, view, tail, 1);
+    let damaged = Refusal::Damaged { file: 1, block: 0 };
+    [
+        find(&mut docs, Some(1), 6) == Ok(Some(60)),
+        find(&mut docs, Some(1), 7) == Ok(None),
+        find(&mut docs, Some(0), 7) == Err(damaged),
+        docs.document(0).is_ok_and(|rec| rec.seq == 3),
+    ]
+}
+
+#[test]
+fn nodes_and_records_are_read_by_a_view(rt: HostRuntime) -> Result<(), Fail> {
+    let mut host = MemoryHost::empty(rt.alloc())?;
+    let (mut view, tail) = made(rt.alloc(), &mut host)?;
+    assert_eq!(rt; found(rt.alloc(), &mut view, &tail), [true; 4]);
+    assert_eq!(rt;
+        find_by_view(rt.alloc(), &mut view, &tail, 1, Some(1), 5),
+        Ok(Some(50))
+    );
+    Ok(())
+}
