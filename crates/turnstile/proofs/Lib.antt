@@ -4,3 +4,4 @@ pub mod Agrees
 pub mod Knowing
 pub mod Keeps
 pub mod Takings
+pub mod Turns

@@ -1,5 +1,7 @@
 //! Threads take turns with a counter.
 mod counter;
+mod turner;
+mod turns;
 
 ghost use Rattle.std.specs.Prelude.{◌≡◌, ◌≤◌, ◌+◌, ◌<◌};
 ghost use Rattle.std.specs.Thread.{IsSync};
