@@ -3,6 +3,7 @@
 #![tactic(auto)]
 
 mod berth;
+mod crossing;
 mod pass;
 mod passes;
 mod plays;
