@@ -65,8 +65,9 @@ impl<'a, V: View> Docs for FileDocs<'a, V> {
     }
 }
 
-/// The value of a chunk in the tree of a root in a file, as a view and an open block show it. The view's blocks stay.
-pub fn find_by_view<V: View>(
+// The value of a chunk in the tree of a root in a file, as a view and an open block show it: after a call that takes any
+// pages the caller knows its view again.
+pub(crate) fn find_by_view<V: View>(
     alloc: Global,
     view: &mut V,
     tail: &Tail,

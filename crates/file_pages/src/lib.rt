@@ -4,7 +4,7 @@
 mod docs;
 mod reading;
 
-pub use docs::{FileDocs, find_by_view};
+pub use docs::FileDocs;
 
 #[cfg(test)]
 mod tests;
