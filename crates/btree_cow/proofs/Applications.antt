@@ -36,14 +36,19 @@ pub record Applies (tells : Bool) (old new : Shelf) (before after : ℕ) (root a
 
 -- ---- a run
 
-runs_more : (done : List Change) (c : Change) (root at next : Option ℕ) (old mid new : Shelf) → Runs done root old mid at → MakesChange c at mid new next → Runs (done ++ c ∷ []) root old new next
-runs_more [] c root at next old mid new run made =
-    (new, next, subst (λ (o : Option ℕ). MakesChange c o old new next) run.1 (subst (λ (s : Shelf). MakesChange c at s new next) run.0 made), (refl, refl))
-runs_more (d ∷ done) c root at next old mid new run made = (run.0, run.1, run.2, runs_more done c run.1 at next run.0 mid new run.3 made)
+runs_more : (done : List Change) (c : Change) (root at next : Option ℕ) (old mid new : Shelf) → Runs done root old mid at → Later mid new → MakesChange c at mid new next → Runs (done ++ c ∷ []) root old new next
+runs_more [] c root at next old mid new run later made = (
+  new,
+  next,
+  subst (λ (s : Shelf). Later s new) run.0 later,
+  subst (λ (o : Option ℕ). MakesChange c o old new next) run.1 (subst (λ (s : Shelf). MakesChange c at s new next) run.0 made),
+  (refl, refl),
+)
+runs_more (d ∷ done) c root at next old mid new run later made = (run.0, run.1, run.2, run.3, runs_more done c run.1 at next run.0 mid new run.4 later made)
 
-pub made_put : (change : Change) (root : Option ℕ) (old new : Shelf) (value at : ℕ) → change.1 ≡ Some value → Inserts root change.0 value old new at → MakesChange change root old new (Some at)
-made_put (chunk, None) root old new value at is made = absurd (none-some value is)
-made_put (chunk, Some other) root old new value at is made = (at, refl, subst (λ (n : ℕ). Inserts root chunk n old new at) (sym (same_Some other value is)) made)
+pub made_put : (change : Change) (root : Option ℕ) (old new : Shelf) (value at : ℕ) → change.1 ≡ Some value → at + 1 ≡ new.used → Inserts root change.0 value old new at → MakesChange change root old new (Some at)
+made_put (chunk, None) root old new value at is last made = absurd (none-some value is)
+made_put (chunk, Some other) root old new value at is last made = (at, refl, last, subst (λ (n : ℕ). Inserts root chunk n old new at) (sym (same_Some other value is)) made)
 
 pub made_removal : (change : Change) (root : Option ℕ) (old new : Shelf) (r : Result (Option ℕ) Refusal) → change.1 ≡ None → IfOk r (Takes root change.0 old new) → IfOk r (MakesChange change root old new)
 made_removal (chunk, None) root old new r is made = made
@@ -79,27 +84,27 @@ runs_whole tells old new x y root at changes n all a told =
     subst (λ (l : List Change). Runs l root old new at)
     (sym (append-nil a.done) ∙ ap (λ (l : List Change). a.done ++ l) (sym (drop_all n changes all)) ∙ sym a.split) (a.run told)
 
-pub left_fails : (tells : Bool) (old mid new : Shelf) (x y z : ℕ) (root at : Option ℕ) (changes rest : List Change) (why : Refusal) → Applies tells old mid x y root at changes rest → ChangeFails tells mid new at y z why → ApplyFails tells old new root changes x z why
-left_fails tells old mid new x y z root at changes rest why a (inl disk) = inl (disk.0, subst (λ (n : ℕ). risen n ≤ z) a.same disk.1)
-left_fails tells old mid new x y z root at changes rest why a (inr (inl full)) = inr (inl full)
-left_fails tells old mid new x y z root at changes rest why a (inr (inr damaged)) =
+pub left_fails : (tells : Bool) (old mid new : Shelf) (x y z : ℕ) (root at : Option ℕ) (changes rest : List Change) (why : Refusal) → Applies tells old mid x y root at changes rest → (IsTrue tells → Later mid new) → ChangeFails tells mid new at y z why → ApplyFails tells old new root changes x z why
+left_fails tells old mid new x y z root at changes rest why a goes_on (inl disk) = inl (disk.0, subst (λ (n : ℕ). risen n ≤ z) a.same disk.1)
+left_fails tells old mid new x y z root at changes rest why a goes_on (inr (inl full)) = inr (inl full)
+left_fails tells old mid new x y z root at changes rest why a goes_on (inr (inr damaged)) =
     inr (
     inr (
       damaged.0,
       damaged.1 ∙ ap (λ (f : ℕ). Refusal.Damaged f damaged.0) a.limits.file,
-      λ told. record { done = a.done; rest = rest; split = a.split; mid = mid; later = a.later told; at = at; run = a.run told; broken = damaged.2 told },
+      λ told. record { done = a.done; rest = rest; split = a.split; mid = mid; later = a.later told; at = at; run = a.run told; goes_on = goes_on told; broken = damaged.2 told },
     ))
 
 -- ---- how many blocks
 
 few_of_change : (c : Change) (root next : Option ℕ) (old new : Shelf) → MakesChange c root old new next → new.used ≤ old.used + 21
-few_of_change (chunk, Some value) root next old new made = few_of_insert root chunk value made.0 old new made.2
+few_of_change (chunk, Some value) root next old new made = few_of_insert root chunk value made.0 old new made.3
 few_of_change (chunk, None) root next old new made = omega (arith, few_of_removal root chunk old new next made)
 
 pub few_of_run : (changes : List Change) (root at : Option ℕ) (old new : Shelf) → Runs changes root old new at → new.used ≤ old.used + 21 * length changes
 few_of_run [] root at old new run = subst (λ (s : Shelf). s.used ≤ old.used + 0) (sym run.0) (omega arith)
 few_of_run (c ∷ changes) root at old new run =
-    omega (arith, few_of_change c root run.1 old run.0 run.2, few_of_run changes run.1 at run.0 new run.3)
+    omega (arith, few_of_change c root run.1 old run.0 run.3, few_of_run changes run.1 at run.0 new run.4)
 
 -- ---- one change more
 
@@ -116,7 +121,7 @@ applies_next tells old mid new x y z root at at' changes rest c a later limits s
   same = same ∙ a.same;
   done = a.done ++ c ∷ [];
   split = a.split ∙ sym (append_assoc a.done (c ∷ []) rest);
-  run = λ told. runs_more a.done c root at at' old mid new (a.run told) (made told);
+  run = λ told. runs_more a.done c root at at' old mid new (a.run told) (later told) (made told);
   still = λ told ok entries tree none.
       let so = a.still told ok entries tree none in
       let parts = and_parts (is_absent entries c) (list_all (is_absent entries) rest) so.2 in

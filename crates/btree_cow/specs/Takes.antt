@@ -146,16 +146,17 @@ Takes (Some at) chunk old new root =
 -- ---- changes one after another
 
 abbrev pub MakesChange : Change → Option ℕ → Shelf → Shelf → Option ℕ → Type 0
-MakesChange (chunk, Some value) root old new after = (at : ℕ) × (after ≡ Some at) × Inserts root chunk value old new at
+MakesChange (chunk, Some value) root old new after = (at : ℕ) × (after ≡ Some at) × (at + 1 ≡ new.used) × Inserts root chunk value old new at
 MakesChange (chunk, None) root old new after = Takes root chunk old new after
 
--- changes lead from a root to another
+-- changes lead from a root to another, each over the blocks that the earlier ones left
 abbrev pub Runs : List Change → Option ℕ → Shelf → Shelf → Option ℕ → Type 0
 Runs [] root old new after = (new ≡ old) × (after ≡ root)
-Runs (c ∷ changes) root old new after = (mid : Shelf) × (next : Option ℕ) × MakesChange c root old mid next × Runs changes next mid new after
+Runs (c ∷ changes) root old new after = (mid : Shelf) × (next : Option ℕ) × Later old mid × MakesChange c root old mid next × Runs changes next mid new after
 
--- a block that breaks the tree of the root to which the changes of before led, and which is the one handed in before the first
-pub record BreaksRun (changes : List Change) (root : Option ℕ) (old : Shelf) (block : ℕ) : Type 0 where
+-- A block that breaks the tree of the root to which the changes of before led, and which is the one handed in before the
+-- first; the file only grew from there on.
+pub record BreaksRun (changes : List Change) (root : Option ℕ) (old new : Shelf) (block : ℕ) : Type 0 where
   pub done : List Change
   pub rest : List Change
   pub split : changes ≡ done ++ rest
@@ -163,6 +164,7 @@ pub record BreaksRun (changes : List Change) (root : Option ℕ) (old : Shelf) (
   pub later : Later old mid
   pub at : Option ℕ
   pub run : Runs done root old mid at
+  pub goes_on : Later mid new
   pub broken : BreaksFrom mid at block
 
 -- The reasons not to make changes: a count of faults that rose, no room for a block more, or a block that breaks the tree
@@ -171,4 +173,4 @@ abbrev pub ApplyFails : Bool → Shelf → Shelf → Option ℕ → List Change 
 ApplyFails tells old new root changes before after why =
     ((why ≡ Refusal.DiskFault) × (risen before ≤ after))
     ⊎ ((why ≡ is_full new) × (new.most ≤ new.used))
-    ⊎ ((block : ℕ) × (why ≡ Refusal.Damaged old.file block) × (IsTrue tells → BreaksRun changes root old block))
+    ⊎ ((block : ℕ) × (why ≡ Refusal.Damaged old.file block) × (IsTrue tells → BreaksRun changes root old new block))
