@@ -67,7 +67,7 @@ fn nodes_and_records_are_read_by_a_view(rt: HostRuntime) -> Result<(), Fail> {
     let (mut view, tail) = made(rt.alloc(), &mut host)?;
     assert_eq!(rt; found(rt.alloc(), &mut view, &tail), [true; 4]);
     assert_eq!(rt;
-        find_by_view(rt.alloc(), &mut view, &tail, 1, Some(1), 5),
+        crate::docs::find_by_view(rt.alloc(), &mut view, &tail, 1, Some(1), 5),
         Ok(Some(50))
     );
     Ok(())
