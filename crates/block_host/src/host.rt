@@ -6,7 +6,7 @@ use crate::{Block, Failed, Fresh, Settled, View};
 
 /// The files, by number, and what is said on the output. File 0 is the meta file. An absent file is empty, and no
 /// argument is a reason to fail.
-pub trait Host: Send {
+pub trait Host {
     type View: View + Send;
 
     type Fresh: Fresh + Send;

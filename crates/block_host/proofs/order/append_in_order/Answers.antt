@@ -9,7 +9,7 @@ pub returns-in_err-append-clause-any_moment : goal.returns-in_err-append-clause-
 returns-in_err-append-clause-any_moment g c told =
     let file = c.args.file in
     let d0 = g.H.Host.disk c.args.host.now in
-    let lawful = (g.met.H.Host g.world.𝓛 g.world.𝓜 g.world.𝓡 ((λ s x. x), (λ x. x), (λ x. x), λ x. x)).lawful told c.args.host.now in
+    let lawful = g.met.H.Host.lawful told c.args.host.now in
     after_records file (d0.files file) c.args.records.now c.args.header.now d0 (g.H.Host.disk c.append.new.self) lawful (c.requires told) refl (c.append.ensures.told told).part c.append.ensures.clock
 
 pub returns-in_err-sync-clause-any_moment : goal.returns-in_err-sync-clause-any_moment
@@ -18,7 +18,7 @@ returns-in_err-sync-clause-any_moment g c told =
     let d0 = g.H.Host.disk c.args.host.now in
     let d1 = g.H.Host.disk c.append.new.self in
     let old = d0.files file in
-    let lawful = (g.met.H.Host g.world.𝓛 g.world.𝓜 g.world.𝓡 ((λ s x. x), (λ x. x), (λ x. x), λ x. x)).lawful told c.args.host.now in
+    let lawful = g.met.H.Host.lawful told c.args.host.now in
     let part = (c.append.ensures.told told).part in
     let run = after_records file old c.args.records.now c.args.header.now d0 d1 lawful (c.requires told) refl part c.append.ensures.clock in
     after_sync file c.sync.result d0 d1 (g.H.Host.disk c.sync.new.self) (Stands file old c.args.records.now c.args.header.now) run (c.sync.ensures.told told) c.sync.ensures.clock
@@ -31,7 +31,7 @@ returns-in_err-append-2-clause-any_moment g c told =
     let d1 = g.H.Host.disk c.append.new.self in
     let d2 = g.H.Host.disk c.sync.new.self in
     let old = d0.files file in
-    let lawful = (g.met.H.Host g.world.𝓛 g.world.𝓜 g.world.𝓡 ((λ s x. x), (λ x. x), (λ x. x), λ x. x)).lawful told c.args.host.now in
+    let lawful = g.met.H.Host.lawful told c.args.host.now in
     let part = (c.append.ensures.told told).part in
     let run = after_records file old c.args.records.now c.args.header.now d0 d1 lawful (c.requires told) refl part c.append.ensures.clock in
     let synced = after_sync file c.sync.result d0 d1 d2 (Stands file old c.args.records.now c.args.header.now) run (c.sync.ensures.told told) c.sync.ensures.clock
@@ -48,7 +48,7 @@ returns-clause-any_moment g c told =
     let d3 = g.H.Host.disk c.append-2.new.self in
     let old = d0.files file in
     let P = Stands file old c.args.records.now c.args.header.now in
-    let lawful = (g.met.H.Host g.world.𝓛 g.world.𝓜 g.world.𝓡 ((λ s x. x), (λ x. x), (λ x. x), λ x. x)).lawful told c.args.host.now in
+    let lawful = g.met.H.Host.lawful told c.args.host.now in
     let part = (c.append.ensures.told told).part in
     let run = after_records file old c.args.records.now c.args.header.now d0 d1 lawful (c.requires told) refl part c.append.ensures.clock in
     let synced = after_sync file c.sync.result d0 d1 d2 P run (c.sync.ensures.told told) c.sync.ensures.clock
@@ -65,7 +65,7 @@ returns-in_err-append-clause-others g c told =
     let file = c.args.file in
     let d0 = g.H.Host.disk c.args.host.now in
     let d1 = g.H.Host.disk c.append.new.self in
-    let one = alone_by_change file d0 d0 d1 (alone file d0 ((g.met.H.Host g.world.𝓛 g.world.𝓜 g.world.𝓡 ((λ s x. x), (λ x. x), (λ x. x), λ x. x)).lawful told c.args.host.now)) c.append.ensures.clock (Written file (length (d0.files file)) c.args.records.now) (c.append.ensures.told told).part in
+    let one = alone_by_change file d0 d0 d1 (alone file d0 (g.met.H.Host.lawful told c.args.host.now)) c.append.ensures.clock (Written file (length (d0.files file)) c.args.records.now) (c.append.ensures.told told).part in
     one
 
 pub returns-in_err-sync-clause-others : goal.returns-in_err-sync-clause-others
@@ -73,7 +73,7 @@ returns-in_err-sync-clause-others g c told =
     let file = c.args.file in
     let d0 = g.H.Host.disk c.args.host.now in
     let d1 = g.H.Host.disk c.append.new.self in
-    let one = alone_by_change file d0 d0 d1 (alone file d0 ((g.met.H.Host g.world.𝓛 g.world.𝓜 g.world.𝓡 ((λ s x. x), (λ x. x), (λ x. x), λ x. x)).lawful told c.args.host.now)) c.append.ensures.clock (Written file (length (d0.files file)) c.args.records.now) (c.append.ensures.told told).part in
+    let one = alone_by_change file d0 d0 d1 (alone file d0 (g.met.H.Host.lawful told c.args.host.now)) c.append.ensures.clock (Written file (length (d0.files file)) c.args.records.now) (c.append.ensures.told told).part in
     let d2 = g.H.Host.disk c.sync.new.self in
     let two = alone_by_sync file d0 d1 d2 one c.sync.ensures.clock c.sync.result (c.sync.ensures.told told) in
     two
@@ -83,7 +83,7 @@ returns-in_err-append-2-clause-others g c told =
     let file = c.args.file in
     let d0 = g.H.Host.disk c.args.host.now in
     let d1 = g.H.Host.disk c.append.new.self in
-    let one = alone_by_change file d0 d0 d1 (alone file d0 ((g.met.H.Host g.world.𝓛 g.world.𝓜 g.world.𝓡 ((λ s x. x), (λ x. x), (λ x. x), λ x. x)).lawful told c.args.host.now)) c.append.ensures.clock (Written file (length (d0.files file)) c.args.records.now) (c.append.ensures.told told).part in
+    let one = alone_by_change file d0 d0 d1 (alone file d0 (g.met.H.Host.lawful told c.args.host.now)) c.append.ensures.clock (Written file (length (d0.files file)) c.args.records.now) (c.append.ensures.told told).part in
     let d2 = g.H.Host.disk c.sync.new.self in
     let two = alone_by_sync file d0 d1 d2 one c.sync.ensures.clock c.sync.result (c.sync.ensures.told told) in
     let d3 = g.H.Host.disk c.append-2.new.self in
@@ -95,7 +95,7 @@ returns-clause-others g c told =
     let file = c.args.file in
     let d0 = g.H.Host.disk c.args.host.now in
     let d1 = g.H.Host.disk c.append.new.self in
-    let one = alone_by_change file d0 d0 d1 (alone file d0 ((g.met.H.Host g.world.𝓛 g.world.𝓜 g.world.𝓡 ((λ s x. x), (λ x. x), (λ x. x), λ x. x)).lawful told c.args.host.now)) c.append.ensures.clock (Written file (length (d0.files file)) c.args.records.now) (c.append.ensures.told told).part in
+    let one = alone_by_change file d0 d0 d1 (alone file d0 (g.met.H.Host.lawful told c.args.host.now)) c.append.ensures.clock (Written file (length (d0.files file)) c.args.records.now) (c.append.ensures.told told).part in
     let d2 = g.H.Host.disk c.sync.new.self in
     let two = alone_by_sync file d0 d1 d2 one c.sync.ensures.clock c.sync.result (c.sync.ensures.told told) in
     let d3 = g.H.Host.disk c.append-2.new.self in

@@ -13,6 +13,6 @@ returns-in_err-entry-clause-reads g c =
 pub returns-clause-reads : goal.returns-clause-reads
 returns-clause-reads g c =
     let old = c.args.self.now.parts in
-    let views = (g.met.H.Host g.world.𝓛 g.world.𝓜 g.world.𝓡 ((λ s x. x), (λ x. x), (λ x. x), λ x. x)).views_tell in
+    let views = g.met.H.Host.views_tell in
     λ s stands. number_found_as g.H.Host.tells (held old) (g.H.Host.disk old.host) (g.H.View.View.content old.view) s stands c.args.at.now (g.H.View.View.faults old.view) (g.H.View.View.faults c.document.new.self.parts.view)
     g.H.View.View.tells views c.args.seq c.in_ok-entry.entry c.document.result c.in_ok-entry.ensures c.document.ensures.finds
