@@ -99,7 +99,7 @@ module _ (asked : Asked) (tail : OpenBlock) (open_is : asked.tail ≡ Some tail)
     abbrev first_piece : Piece
     first_piece = record { block = address / 4096; offset = address % 4096; bytes = drop (address % 4096) payload }
 
-    hand_is : in_hand place ≡ first_piece
+    pub hand_is : in_hand place ≡ first_piece
     hand_is =
         let make : ℕ → ℕ → List ℕ → Piece = λ a b d. record { block = a; offset = b; bytes = d } in
         let block : place.next - 1 ≡ address / 4096 = omega arith in

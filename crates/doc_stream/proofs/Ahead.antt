@@ -3,6 +3,7 @@ use Rattle.std.proofs.Common.{◌≡◌, ◌≢◌, ◌⊎◌, inl, inr, ℕ, su
 use Rattle.block_host.specs.declared.block.Block.{Block}
 use Rattle.forest_model.specs.declared.stored.Rec.{Rec}
 use Rattle.doc_stream.specs.Broken.{AreShown, Begins, BreaksRange, Leads, Precede}
+use Rattle.doc_stream.specs.Memory.{HasHeadBehind}
 use Rattle.doc_stream.specs.OpenBlock.{address_of}
 use Rattle.forest_model.specs.Records.{record_bytes, is_record}
 use Rattle.doc_stream.specs.Runs.{Piece, RecordBlocks, Follows, Spreads, StartsAt, left}
@@ -23,6 +24,12 @@ pub range_lifted : (revision end : ℕ) (file : List Block) (new : List Piece) (
     → (block : ℕ) → BreaksRange revision end file new next block → BreaksRange revision end file old start block
 range_lifted revision end file new next old start more is lift block (inl x) = let at = x.1 in inl (more + x.0, omega arith, lift x.0 (more + x.0) [] refl x.2, x.3)
 range_lifted revision end file new next old start more is lift block (inr x) = let at = x.2 in inr (more + x.0, x.1, omega arith, lift x.0 (more + x.0) (x.1 ∷ []) refl x.3, x.4)
+
+pub head_lifted : (revision end : ℕ) (file : List Block) (new : List Piece) (next : ℕ) (old : List Piece) (start more : ℕ) → next ≡ start + more → Lifts revision file new next old start more
+    → HasHeadBehind revision end file new next → HasHeadBehind revision end file old start
+head_lifted revision end file new next old start more is lift h =
+    let at = h.at in
+    record { count = more + h.count; first = h.first; at = omega arith; within = h.within; leads = lift h.count (more + h.count) (h.first ∷ []) refl h.leads; stands = h.stands }
 
 -- a block that is passed over, or a record block
 module _ (revision : ℕ) (file : List Block) (start : ℕ) (kind : ℕ) (payload : List ℕ) (stands : Stands revision file start kind payload) (old new : List Piece) where

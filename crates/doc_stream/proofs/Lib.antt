@@ -16,3 +16,4 @@ mod KeptAt
 mod WrittenRead
 mod WrittenScanned
 mod Ranges
+mod Unasked

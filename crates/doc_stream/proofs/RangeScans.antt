@@ -4,6 +4,7 @@ use Rattle.std.proofs.lemmas.List.{append-nil}
 use Rattle.block_host.specs.declared.block.Block.{Block}
 use Rattle.forest_model.specs.declared.stored.Rec.{Rec}
 use Rattle.doc_stream.specs.Causes.{BreaksRecords}
+use Rattle.doc_stream.specs.Memory.{HasHead, HasHeadBehind}
 use Rattle.doc_stream.specs.OpenBlock.{OpenBlock, address_of}
 use Rattle.forest_model.specs.Records.{record_bytes, is_record}
 use Rattle.doc_stream.specs.Runs.{Piece, RecordBlocks, Spreads, AreRecords, StartsAt, RecordsOf, left}
@@ -12,8 +13,9 @@ use Rattle.doc_stream.specs.Broken.{BreaksAt, BreaksRange}
 use Rattle.doc_stream.specs.Shown.{range_of, Asked, Stands, Shows, Unsealed}
 use Rattle.doc_stream.specs.Steps.{Place, in_hand, Following, IsNear, IsWithin, SameBelow, Stretch, Loads, TakesRecord, StopsRecord}
 use Rattle.doc_stream.proofs.Blocks.{same_less, same_back, stands_other, some_or_none, kept, passed, left_left, front, pass_on, pass_back, following_on, front_back}
-use Rattle.doc_stream.proofs.Ahead.{Lifts, into, over_record, past, precede_same, range_lifted}
+use Rattle.doc_stream.proofs.Ahead.{Lifts, head_lifted, into, over_record, past, precede_same, range_lifted}
 use Rattle.doc_stream.proofs.Before.{last_block, range_there}
+use Rattle.doc_stream.proofs.Fronts.{nil_rest}
 use Rattle.doc_stream.proofs.Steps.{spreads_none}
 
 -- what pieces with no bytes lie between tells nothing
@@ -81,6 +83,7 @@ module _ (asked : Asked) (none : asked.tail ≡ None) (file : List Block) where
     on = λ other rest same r. r;
     back = λ other records same r. (records, refl, r);
     breaks = λ block b. b;
+    heads = λ h. h;
   }
 
   pub scans_both : (a b c : Place) (first second : List (ℕ × Rec)) → Scans asked file a b first → Scans asked file b c second → Scans asked file a c (first ++ second)
@@ -97,6 +100,7 @@ module _ (asked : Asked) (none : asked.tail ≡ None) (file : List Block) where
             let further = two.back other front.0 same front.2 in
             (further.0, front.1 ∙ ap (λ (l : List (ℕ × Rec)). first ++ l) further.1 ∙ sym (append_assoc first second further.0), further.2);
         breaks = λ block b. one.breaks block (two.breaks block b);
+        heads = λ h. one.heads (two.heads h);
       }
 
   -- a block that is passed over
@@ -137,6 +141,7 @@ module _ (asked : Asked) (none : asked.tail ≡ None) (file : List Block) where
           },
         );
         breaks = range_lifted asked.revision asked.end file (in_hand new ∷ []) new.next (in_hand old ∷ []) old.next 1 next_is (lifted why);
+        heads = head_lifted asked.revision asked.end file (in_hand new ∷ []) new.next (in_hand old ∷ []) old.next 1 next_is (lifted why);
       }
 
     -- a record block with bytes
@@ -183,6 +188,7 @@ module _ (asked : Asked) (none : asked.tail ≡ None) (file : List Block) where
         on = load_on;
         back = λ other records same r. (records, refl, load_back other records same r);
         breaks = range_lifted asked.revision asked.end file (in_hand new ∷ []) new.next (in_hand old ∷ []) old.next 1 next_is lifted_into;
+        heads = head_lifted asked.revision asked.end file (in_hand new ∷ []) new.next (in_hand old ∷ []) old.next 1 next_is lifted_into;
       }
 
     loaded : (test : Bool) → Loads asked file old.next new test → (new.bytes ≡ []) ⊎ (1 ≤ length new.bytes) → Scans asked file old new []
@@ -269,6 +275,7 @@ module _ (asked : Asked) (none : asked.tail ≡ None) (file : List Block) where
             record { pieces = there.1.pieces; following = there.1.following; are = subst (λ (ps : List Piece). AreRecords ps one.1) behind one.6 },
           );
       breaks = range_lifted asked.revision asked.end file (in_hand new ∷ []) new.next (in_hand old ∷ []) old.next (length takes.begins.more) (counted new rec takes) (over new rec is takes);
+      heads = head_lifted asked.revision asked.end file (in_hand new ∷ []) new.next (in_hand old ∷ []) old.next (length takes.begins.more) (counted new rec takes) (over new rec is takes);
     }
       where
         counted : (new : Place) (rec : Rec) → (takes : TakesRecord asked file old new rec) → new.next ≡ old.next + length takes.begins.more
@@ -283,6 +290,16 @@ module _ (asked : Asked) (none : asked.tail ≡ None) (file : List Block) where
             let start : old.next - 1 + 1 ≡ old.next = omega arith in
             subst (λ (n : ℕ). Lifts asked.revision file (in_hand new ∷ []) new.next (in_hand old ∷ []) n (length takes.begins.more)) start
             (over_record asked file (in_hand old) (in_hand new) rec new.next none some is takes.begins (omega arith))
+
+    pub head_behind : old.next ≤ asked.end → HasHead asked file (in_hand old) → HasHeadBehind asked.revision asked.end file (in_hand old ∷ []) old.next
+    head_behind within stands = record {
+      count = 0;
+      first = in_hand old;
+      at = omega arith;
+      within = omega arith;
+      leads = record { pieces = []; blocks = refl; records = []; precede = kept (in_hand old) [] some };
+      stands = subst (λ (a : Asked). HasHead a file (in_hand old)) asked_is stands;
+    }
 
     pub breaks_record : (block : ℕ) → StopsRecord asked file old block → BreaksRest asked file old block
     breaks_record block stops = record {
@@ -319,6 +336,16 @@ module _ (asked : Asked) (none : asked.tail ≡ None) (file : List Block) where
         let same : left (in_hand start ∷ s.pieces) ≡ left f.0 = ap (λ (ps : List Piece). left (in_hand start ∷ ps)) f.2 ∙ sym (start_left f.0) in
         record { pieces = f.0; blocks = f.1; are = are_same (in_hand start ∷ s.pieces) f.0 records same s.are }
 
+    nothing_in_hand : Lifts asked.revision file (in_hand start ∷ []) start.next [] start.next 0
+    nothing_in_hand count all behind is leads =
+        let counted : count ≡ all = omega arith in
+        record {
+          pieces = leads.pieces;
+          blocks = subst (λ (n : ℕ). RecordBlocks asked.revision file start.next n leads.pieces) counted leads.blocks;
+          records = leads.records;
+          precede = precede_same (in_hand start ∷ leads.pieces) leads.pieces leads.records behind (passed (in_hand start) leads.pieces empty) leads.precede;
+        }
+
     pub breaks_records : (now : Place) (done : List (ℕ × Rec)) (block : ℕ) → start.next ≤ now.next → (1 ≤ length now.bytes → start.next < now.next) → Scans asked file start now done → BreaksRest asked file now block → BreaksRecords asked.revision file start.next (asked.end - start.next) block
     breaks_records now done block later ready scans breaks =
         let low : start.next ≤ block = low_of now block later ready breaks.reached breaks.behind in
@@ -335,19 +362,23 @@ module _ (asked : Asked) (none : asked.tail ≡ None) (file : List Block) where
               breaks.broken other back.0 same back.2;
         }
       where
-        nothing_in_hand : Lifts asked.revision file (in_hand start ∷ []) start.next [] start.next 0
-        nothing_in_hand count all behind is leads =
-            let counted : count ≡ all = omega arith in
-            record {
-              pieces = leads.pieces;
-              blocks = subst (λ (n : ℕ). RecordBlocks asked.revision file start.next n leads.pieces) counted leads.blocks;
-              records = leads.records;
-              precede = precede_same (in_hand start ∷ leads.pieces) leads.pieces leads.records behind (passed (in_hand start) leads.pieces empty) leads.precede;
-            }
-
         low_of : (now : Place) (block : ℕ) → start.next ≤ now.next → (1 ≤ length now.bytes → start.next < now.next) → (1 ≤ length now.bytes) ⊎ (now.next ≤ block) → now.next ≤ block + 1 → start.next ≤ block
         low_of now block later ready (inl some) behind = let higher : start.next < now.next = ready some in omega arith
         low_of now block later ready (inr le) behind = omega arith
+
+    pub head_from : (now : Place) (done : List (ℕ × Rec)) → Scans asked file start now done → HasHeadBehind asked.revision asked.end file (in_hand now ∷ []) now.next → HasHeadBehind asked.revision asked.end file [] start.next
+    head_from now done scans h = head_lifted asked.revision asked.end file (in_hand start ∷ []) start.next [] start.next 0 (omega arith) nothing_in_hand (scans.heads h)
+
+    -- no records are left where there are none
+    pub hand_none : (now : Place) (done : List (ℕ × Rec)) → Scans asked file start now done → RecordsOf asked.revision file start.next (asked.end - start.next) [] → length now.bytes ≡ 0
+    hand_none now done scans of =
+        let back = scans.back file [] refl (rest_start file [] of) in
+        let none_left : back.0 ≡ [] = nil_rest done back.0 (sym back.1) in
+        let s = subst (λ (l : List (ℕ × Rec)). RestOf asked file now l) none_left back.2 in
+        elim (some_or_none now.bytes) [
+          | inl empty_hand ↦ ap length empty_hand
+          | inr some ↦ (let gone : ◌≡◌ {A = List Piece} (in_hand now ∷ left s.pieces) [] = sym (kept (in_hand now) s.pieces some) ∙ s.are in absurd cc)
+        ]
 
     -- the range's end
     module _ (end : Place) (done : List (ℕ × Rec)) (scans : Scans asked file start end done) (nothing : end.bytes ≡ []) (past : asked.end ≤ end.next) where

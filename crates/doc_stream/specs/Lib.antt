@@ -11,3 +11,5 @@ pub mod Heads
 pub mod Sources
 pub mod Scans
 pub mod Writing
+pub mod Unasked
+pub mod Memory

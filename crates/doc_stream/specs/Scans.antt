@@ -8,6 +8,7 @@ use Rattle.doc_stream.specs.Runs.{Piece, AreRecords}
 use Rattle.doc_stream.specs.Reading.{RecordAt}
 use Rattle.doc_stream.specs.Shown.{Asked}
 use Rattle.doc_stream.specs.Broken.{BreaksRange, BreaksAt, BreaksAddress}
+use Rattle.doc_stream.specs.Memory.{HasHeadBehind}
 use Rattle.doc_stream.specs.Steps.{Place, in_hand, Following, SameBelow, Stretch}
 
 -- the records that are left from a place on
@@ -22,6 +23,7 @@ pub record Scans (asked : Asked) (file : List Block) (old new : Place) (done : L
   pub on : (other : List Block) (rest : List (ℕ × Rec)) → SameBelow new.next file other → RestOf asked other new rest → RestOf asked other old (done ++ rest)
   pub back : (other : List Block) (records : List (ℕ × Rec)) → SameBelow new.next file other → RestOf asked other old records → (rest : List (ℕ × Rec)) × (records ≡ done ++ rest) × RestOf asked other new rest
   pub breaks : (block : ℕ) → BreaksRange asked.revision asked.end file (in_hand new ∷ []) new.next block → BreaksRange asked.revision asked.end file (in_hand old ∷ []) old.next block
+  pub heads : HasHeadBehind asked.revision asked.end file (in_hand new ∷ []) new.next → HasHeadBehind asked.revision asked.end file (in_hand old ∷ []) old.next
 
 -- a block of what is still to be read of a range
 pub record IsAhead (asked : Asked) (place : Place) (block : ℕ) : Type 0 where

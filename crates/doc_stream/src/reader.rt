@@ -1,10 +1,12 @@
-ghost use Rattle.std.specs.Prelude.{◌≡◌, ◌≢◌, ◌+◌, ◌-◌, ◌^◌, ◌<◌, ◌≤◌, false, ℕ, List, [], length, take, drop, ◌++◌, IsTrue, IfOk, IfErr, OnOk, MatchOption, Some, Err};
+ghost use Rattle.std.specs.Prelude.{◌≡◌, ◌≢◌, ◌+◌, ◌-◌, ◌^◌, ◌<◌, ◌≤◌, true, false, ℕ, List, [], length, take, drop, ◌++◌, IsTrue, IfOk, IfErr, OnOk, MatchOption, Some, Ok, Err};
 ghost use Rattle.forest_model.specs.declared.refusal.Refusal.TheVariants as Refusal;
 ghost use Rattle.doc_stream.specs.Causes.{Cause, Missing};
 ghost use Rattle.doc_stream.specs.OpenBlock.{address_of};
 ghost use Rattle.doc_stream.specs.Sources.{asked_of};
 ghost use Rattle.doc_stream.specs.Shown.{IsNotOpen, Stands, Unsealed};
-ghost use Rattle.doc_stream.specs.Steps.{IsNear, IsWithin, Loads, Moves, Stops, StopsRecord, Takes, TakesRecord, Turns};
+ghost use Rattle.doc_stream.specs.Steps.{in_hand, IsNear, IsWithin, Loads, Moves, Stops, StopsRecord, Takes, TakesRecord, Turns};
+ghost use Rattle.doc_stream.specs.Memory.{HasHead};
+ghost use Rattle.doc_stream.specs.Unasked.{IsOpenAt, IsShort};
 ghost use Rattle.forest_model.specs.Records as records;
 
 use crate::Tail;
@@ -85,6 +87,7 @@ impl Reader {
         ensures fits { OnOk result (length self.new.bytes ≤ 4064) }
         ensures loaded { IsTrue V.tells → IfOk result (Loads (asked_of source.now) (V.content view.old) self.old.next self.new) }
         ensures missing { IfErr result (Missing V.tells source.now.revision self.old.next (Unsealed (asked_of source.now) (V.content view.old) self.old.next) (V.faults view.old) (V.faults view.new)) }
+        ensures here { IsOpenAt (asked_of source.now).tail self.old.next → (view.new ≡ view.old) × (result ≡ Ok true) × IsShort self.new }
         ensures content { IsTrue V.tells → V.content view.new ≡ V.content view.old }
         ensures counts { V.faults view.old ≤ V.faults view.new }
         ensures untroubled { result ≢ Err Refusal.DiskFault → V.faults view.new ≡ V.faults view.old }
@@ -114,6 +117,8 @@ impl Reader {
         ensures moved { OnOk result (Moves (asked_of source.now) self.old self.new 1 0) }
         ensures turned { IsTrue V.tells → OnOk result (Turns (asked_of source.now) (V.content view.old) self.old self.new) }
         ensures reason { IfErr result (Cause V.tells source.now.revision (IsNear (asked_of source.now) self.old 1) (Stops (asked_of source.now) (V.content view.old) self.old 1) (V.faults view.old) (V.faults view.new)) }
+        ensures short { IsShort self.old → (view.new ≡ view.old) × (result ≢ Err Refusal.DiskFault) }
+        ensures memory { result ≢ Err Refusal.NoMemory }
         ensures content { IsTrue V.tells → V.content view.new ≡ V.content view.old }
         ensures counts { V.faults view.old ≤ V.faults view.new }
         ensures untroubled { result ≢ Err Refusal.DiskFault → V.faults view.new ≡ V.faults view.old }
@@ -235,6 +240,8 @@ impl Reader {
         ensures moved { OnOk result (Moves (asked_of source.now) self.old self.new (length out.old) (length out.old)) }
         ensures taken { IsTrue V.tells → OnOk result (Takes (asked_of source.now) (V.content view.old) self.old self.new out.new) }
         ensures reason { IfErr result (Cause V.tells source.now.revision (IsNear (asked_of source.now) self.old (length out.old)) (Stops (asked_of source.now) (V.content view.old) self.old (length out.old)) (V.faults view.old) (V.faults view.new)) }
+        ensures short { IsShort self.old → (view.new ≡ view.old) × (result ≢ Err Refusal.DiskFault) }
+        ensures memory { result ≢ Err Refusal.NoMemory }
         ensures content { IsTrue V.tells → V.content view.new ≡ V.content view.old }
         ensures counts { V.faults view.old ≤ V.faults view.new }
         ensures untroubled { result ≢ Err Refusal.DiskFault → V.faults view.new ≡ V.faults view.old }
@@ -262,6 +269,7 @@ impl Reader {
         ensures moved { OnOk result (Moves (asked_of source.now) self.old self.new count count) }
         ensures taken { IsTrue V.tells → IfOk result (Takes (asked_of source.now) (V.content view.old) self.old self.new) }
         ensures reason { IfErr result (Cause V.tells source.now.revision (IsNear (asked_of source.now) self.old count) (Stops (asked_of source.now) (V.content view.old) self.old count) (V.faults view.old) (V.faults view.new)) }
+        ensures short { IsShort self.old → (view.new ≡ view.old) × (result ≢ Err Refusal.DiskFault) }
         ensures content { IsTrue V.tells → V.content view.new ≡ V.content view.old }
         ensures counts { V.faults view.old ≤ V.faults view.new }
         ensures untroubled { result ≢ Err Refusal.DiskFault → V.faults view.new ≡ V.faults view.old }
@@ -288,6 +296,7 @@ impl Reader {
         ensures moved { OnOk result (let count = head.now.key + head.now.meta + head.now.body in Moves (asked_of source.now) self.old self.new count count) }
         ensures taken { IsTrue V.tells → IfOk result (λ parts. Takes (asked_of source.now) (V.content view.old) self.old self.new (parts.0 ++ parts.1 ++ parts.2)) }
         ensures reason { IfErr result (Cause V.tells source.now.revision (IsNear (asked_of source.now) self.old (head.now.key + head.now.meta + head.now.body)) (Stops (asked_of source.now) (V.content view.old) self.old (head.now.key + head.now.meta + head.now.body)) (V.faults view.old) (V.faults view.new)) }
+        ensures short { IsShort self.old → (view.new ≡ view.old) × (result ≢ Err Refusal.DiskFault) }
         ensures content { IsTrue V.tells → V.content view.new ≡ V.content view.old }
         ensures counts { V.faults view.old ≤ V.faults view.new }
         ensures untroubled { result ≢ Err Refusal.DiskFault → V.faults view.new ≡ V.faults view.old }
@@ -312,6 +321,9 @@ impl Reader {
         ensures moved { OnOk result ((count : ℕ) × (1 ≤ count) × (count ≤ 2 ^ 22) × Moves (asked_of source.now) self.old self.new count count) }
         ensures taken { IsTrue V.tells → IfOk result (TakesRecord (asked_of source.now) (V.content view.old) self.old self.new) }
         ensures reason { IfErr result (Cause V.tells source.now.revision (IsNear (asked_of source.now) self.old 1052355) (StopsRecord (asked_of source.now) (V.content view.old) self.old) (V.faults view.old) (V.faults view.new)) }
+        ensures short { IsShort self.old → (view.new ≡ view.old) × (result ≢ Err Refusal.DiskFault) }
+        ensures head { IsTrue V.tells → OnOk result (HasHead (asked_of source.now) (V.content view.old) (in_hand self.old)) }
+        ensures memory { IsTrue V.tells → result ≡ Err Refusal.NoMemory → HasHead (asked_of source.now) (V.content view.old) (in_hand self.old) }
         ensures content { IsTrue V.tells → V.content view.new ≡ V.content view.old }
         ensures counts { V.faults view.old ≤ V.faults view.new }
         ensures untroubled { result ≢ Err Refusal.DiskFault → V.faults view.new ≡ V.faults view.old }

@@ -1,4 +1,4 @@
-ghost use Rattle.std.specs.Prelude.{◌≡◌, ◌≢◌, ◌+◌, ◌*◌, ◌/◌, ◌^◌, ◌<◌, ◌≤◌, ℕ, List, [], ◌++◌, length, IsTrue, IfOk, OnOk, OnErr, MatchOption, take, vec_len, vec_capacity};
+ghost use Rattle.std.specs.Prelude.{◌≡◌, ◌≢◌, ◌+◌, ◌*◌, ◌/◌, ◌^◌, ◌<◌, ◌≤◌, ℕ, List, [], ◌++◌, length, IsTrue, IsOk, IfOk, OnOk, OnErr, MatchOption, take, vec_len, vec_capacity};
 ghost use Rattle.block_host.specs.Sealed.{IsSealed};
 ghost use Rattle.doc_stream.specs.OpenBlock.{PutsBytes, address_of};
 ghost use Rattle.forest_model.specs.Records.{is_record, head_bytes, record_bytes};
@@ -96,13 +96,15 @@ impl Tail {
     }
 
     /// Puts a record behind those before it, and answers its address. Blocks that are full by then go to `out`, sealed for
-    /// the file's revision.
+    /// the file's revision. Memory is taken for these alone, where `out` has no room for them.
     pub fn put(&mut self, rec: &Rec, rev: u64, out: &mut Vec<Block>) -> Result<u64, Refusal>
         requires is_record { IsTrue (is_record rec.now) }
         requires low { self.old.number ≤ 2 ^ 41 }
         ensures address { IfOk result (λ address. address ≡ address_of self.old.number (length self.old.bytes)) }
         ensures put { OnOk result (PutsBytes rev (record_bytes rec.now) self.old self.new out.old.items out.new.items) }
         ensures memory { OnErr result (result ≡ Err Refusal.NoMemory) }
+        ensures room { vec_len out.old + (length self.old.bytes + length (record_bytes rec.now)) / 4064 ≤ vec_capacity out.old → IsOk result }
+        ensures fits { length self.old.bytes + length (record_bytes rec.now) < 4064 → IsOk result }
         ensures kept { OnErr result ((self.new ≡ self.old) × (out.new.items ≡ out.old.items)) }
     {
         let address = self.address();

@@ -1,12 +1,15 @@
-use Rattle.std.proofs.Common.{◌≡◌, ◌≤◌, ◌<◌, ◌+◌, ◌-◌, ◌/◌, ◌%◌, ℕ, length, Bool, true, false, ◌∙◌, ap, arith, subst}
+use Rattle.std.proofs.Common.{◌≡◌, ◌≤◌, ◌<◌, ◌+◌, ◌-◌, ◌/◌, ◌%◌, ℕ, length, Bool, true, false, Option, Some, sym, ◌∙◌, ap, arith, rules, subst}
 use Rattle.std.proofs.lemmas.Result.{err_from_is_err_and}
 use Rattle.forest_model.specs.declared.refusal.Refusal.TheVariants as Refusal
 use Rattle.doc_stream.specs.Causes.{BreaksRecord}
 use Rattle.doc_stream.specs.Sources.{asked_of}
-use Rattle.doc_stream.specs.Shown.{Unsealed}
+use Rattle.doc_stream.specs.OpenBlock.{OpenBlock}
+use Rattle.doc_stream.specs.Shown.{Asked, Unsealed}
 use Rattle.doc_stream.specs.Steps.{Loads}
-use Rattle.doc_stream.proofs.AddressReads.{breaks_unsealed, breaks_other, breaks_short, starts_from}
+use Rattle.doc_stream.specs.Unasked.{IsOpenAt}
+use Rattle.doc_stream.proofs.AddressReads.{breaks_unsealed, breaks_other, breaks_short, hand_is, starts_from}
 use Rattle.doc_stream.proofs.Loads.{missing_of, missing_damaged}
+use Rattle.doc_stream.proofs.Unasked.{short_skipped}
 use Rattle.doc_stream.proofs.reading.go_to.Goals as goal
 
 pub returns-in_err-load-clause-missing : goal.returns-in_err-load-clause-missing
@@ -77,4 +80,43 @@ returns-clause-shown g c told =
     let file = g.V.View.content c.args.view.now in
     let next : c.args.reader.now.next ≡ c.args.address / 4096 = c.requires.at in
     let loads : Loads asked file (c.args.address / 4096) c.load.new.self true = subst (λ (k : ℕ). Loads asked file k c.load.new.self true) next (subst (λ (b : Bool). Loads asked file c.args.reader.now.next c.load.new.self b) c.if-not-branch.false (c.in_ok-load.ensures.loaded told)) in
-    (c.load.new.self.bytes, loads.1)
+    let asked_next : c.load.new.self.next ≡ c.args.reader.now.next + 1 = c.in_ok-load.ensures.next in
+    let kept : c.skip.new.self.next ≡ c.load.new.self.next = c.skip.ensures.next in
+    let left : c.left.result ≡ length c.load.new.self.bytes = c.left.ensures in
+    let inside : c.args.address % 4096 < c.left.result = c.if-left-offset.false in
+    let at_start : c.load.new.self.offset ≡ 0 = loads.0 in
+    let moved : c.skip.new.self.offset ≡ c.load.new.self.offset + c.args.address % 4096 = c.skip.ensures.offset in (
+      c.load.new.self.bytes,
+      loads.1,
+      omega arith,
+      hand_is asked c.args.tail.now c.requires.open_block c.requires.end file c.args.address c.skip.new.self c.load.new.self.bytes (omega arith) (omega arith) c.skip.ensures.bytes (omega arith) loads.1,
+    )
+
+-- the open block comes into hand
+opened : (asked : Asked) (tail : OpenBlock) (at block : ℕ) → asked.tail ≡ Some tail → at ≡ block → block ≡ tail.number → IsOpenAt asked.tail at
+opened asked tail at block open_is next here = subst (λ (t : Option OpenBlock). IsOpenAt t at) (sym open_is) (next ∙ here)
+
+pub returns-in_err-load-clause-here : goal.returns-in_err-load-clause-here
+returns-in_err-load-clause-here g c here =
+    let is = c.in_err-load.ensures.here (opened (asked_of c.args.source.now) c.args.tail.now c.args.reader.now.next (c.args.address / 4096) c.requires.open_block c.requires.at here) in
+    let never = is.1 in
+    absurd cc
+
+pub returns-then-not-branch-clause-here : goal.returns-then-not-branch-clause-here
+returns-then-not-branch-clause-here g c here =
+    let is = c.in_ok-load.ensures.here (opened (asked_of c.args.source.now) c.args.tail.now c.args.reader.now.next (c.args.address / 4096) c.requires.open_block c.requires.at here) in
+    let found = is.1 in
+    let not = c.if-not-branch.true in
+    absurd cc
+
+pub returns-then-left-offset-clause-here : goal.returns-then-left-offset-clause-here
+returns-then-left-offset-clause-here g c here =
+    let is = c.in_ok-load.ensures.here (opened (asked_of c.args.source.now) c.args.tail.now c.args.reader.now.next (c.args.address / 4096) c.requires.open_block c.requires.at here) in
+    (is.0, search rules, tt)
+
+pub returns-clause-here : goal.returns-clause-here
+returns-clause-here g c here =
+    let is = c.in_ok-load.ensures.here (opened (asked_of c.args.source.now) c.args.tail.now c.args.reader.now.next (c.args.address / 4096) c.requires.open_block c.requires.at here) in
+    let left : c.left.result ≡ length c.load.new.self.bytes = c.left.ensures in
+    let inside : c.args.address % 4096 < c.left.result = c.if-left-offset.false in
+    (is.0, (λ same. cc), short_skipped c.load.new.self c.skip.new.self (c.args.address % 4096) c.skip.ensures.offset c.skip.ensures.bytes (omega arith) is.2)

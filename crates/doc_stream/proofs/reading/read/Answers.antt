@@ -3,12 +3,15 @@ use Rattle.std.proofs.lemmas.Result.{err_from_is_err_and}
 use Rattle.block_host.specs.declared.block.Block.{Block}
 use Rattle.forest_model.specs.declared.refusal.Refusal.TheVariants as Refusal
 use Rattle.doc_stream.specs.Causes.{BreaksRecord}
+use Rattle.doc_stream.specs.Memory.{HasHead}
 use Rattle.doc_stream.specs.OpenBlock.{OpenBlock}
 use Rattle.doc_stream.specs.Scans.{StartsFrom}
 use Rattle.doc_stream.specs.Shown.{Asked}
-use Rattle.doc_stream.specs.Steps.{IsNear, Place, StopsRecord, TakesRecord}
+use Rattle.doc_stream.specs.Runs.{Piece}
+use Rattle.doc_stream.specs.Steps.{IsNear, Place, StopsRecord, TakesRecord, in_hand}
 use Rattle.doc_stream.proofs.AddressReads.{breaks_record, cause_asked, is_at, missing_asked, missing_why, near_address, only_at, refused}
 use Rattle.doc_stream.proofs.Loads.{cause_reason, either_err, missing_reason, same_err}
+use Rattle.doc_stream.proofs.Unasked.{err_other, missing_memory}
 use Rattle.doc_stream.proofs.reading.read.Goals as goal
 
 pub returns-in_err-go_to-clause-exact : goal.returns-in_err-go_to-clause-exact
@@ -119,3 +122,44 @@ returns-clause-exact g c told r at =
     let takes : TakesRecord asked file place c.record.new.self c.in_ok-record.record = subst (λ (f : List Block). TakesRecord asked f place c.record.new.self c.in_ok-record.record) (c.in_ok-go_to.ensures.content told) (c.in_ok-record.ensures.taken told) in
     let same : r ≡ c.in_ok-record.record = only_at asked tail refl refl file c.args.address place (c.in_ok-go_to.ensures.starts told) c.record.new.self c.in_ok-record.record takes r at in
     inl (ap Ok (sym same))
+
+pub returns-in_err-go_to-clause-here : goal.returns-in_err-go_to-clause-here
+returns-in_err-go_to-clause-here g c here =
+    let p = err_from_is_err_and c.from_residual.result c.from_residual.ensures.1 in
+    let now = c.in_err-go_to.ensures.here here in
+    (now.0, err_other c.in_err-go_to.field-0.0 Refusal.DiskFault c.from_residual.result (p.1 ∙ ap Err p.2) now.1)
+
+pub returns-in_err-record-clause-here : goal.returns-in_err-record-clause-here
+returns-in_err-record-clause-here g c here =
+    let p = err_from_is_err_and c.from_residual-in_err-record.result c.from_residual-in_err-record.ensures.1 in
+    let before = c.in_ok-go_to.ensures.here here in
+    let now = c.in_err-record.ensures.short before.2 in
+    (now.0 ∙ before.0, err_other c.in_err-record.field-0.0 Refusal.DiskFault c.from_residual-in_err-record.result (p.1 ∙ ap Err p.2) now.1)
+
+pub returns-clause-here : goal.returns-clause-here
+returns-clause-here g c here =
+    let before = c.in_ok-go_to.ensures.here here in
+    ((c.in_ok-record.ensures.short before.2).0 ∙ before.0, λ same. cc)
+
+pub returns-in_err-go_to-clause-memory : goal.returns-in_err-go_to-clause-memory
+returns-in_err-go_to-clause-memory g c told same =
+    let p = err_from_is_err_and c.from_residual.result c.from_residual.ensures.1 in
+    let file = g.V.View.content c.args.view.now in
+    absurd (missing_memory g.V.View.tells c.args.rev (c.args.address / 4096) (BreaksRecord c.args.rev file c.args.tail.now c.args.address (c.args.address / 4096)) (g.V.View.faults c.args.view.now) (g.V.View.faults c.go_to.new.view) c.in_err-go_to.field-0.0 c.from_residual.result
+    (p.1 ∙ ap Err p.2) c.in_err-go_to.ensures.missing same)
+
+pub returns-in_err-record-clause-memory : goal.returns-in_err-record-clause-memory
+returns-in_err-record-clause-memory g c told same =
+    let p = err_from_is_err_and c.from_residual-in_err-record.result c.from_residual-in_err-record.ensures.1 in
+    let file = g.V.View.content c.args.view.now in
+    let tail = c.args.tail.now in
+    let asked : Asked = record { revision = c.args.rev; tail = Some tail; end = 0 } in
+    let place = c.go_to.new.reader in
+    let shown = c.in_ok-go_to.ensures.shown told in
+    let head = c.in_err-record.ensures.memory told (sym (p.1 ∙ ap Err p.2) ∙ same) in
+    record {
+      payload = shown.0;
+      inside = shown.2;
+      shows = shown.1;
+      stands = subst (λ (q : Piece). HasHead asked file q) shown.3 (subst (λ (f : List Block). HasHead asked f (in_hand place)) (c.in_ok-go_to.ensures.content told) head);
+    }

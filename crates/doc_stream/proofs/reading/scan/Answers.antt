@@ -1,17 +1,19 @@
-use Rattle.std.proofs.Common.{◌≡◌, ◌≤◌, ◌<◌, ◌-◌, ◌⊎◌, ℕ, List, length, None, Ok, Err, inl, inr, refl, sym, ◌∙◌, arith, ap, subst}
+use Rattle.std.proofs.Common.{◌≡◌, ◌≤◌, ◌<◌, ◌+◌, ◌-◌, ◌*◌, ◌⊎◌, ℕ, [], ◌∷◌, List, length, None, Ok, Err, Result, inl, inr, refl, sym, ◌∙◌, arith, rules, ap, subst}
 use Rattle.std.proofs.lemmas.List.{nil_from_length}
 use Rattle.std.proofs.lemmas.Result.{err_from_is_err_and}
 use Rattle.block_host.specs.declared.block.Block.{Block}
-use Rattle.forest_model.specs.declared.refusal.Refusal.TheVariants as Refusal
+use Rattle.forest_model.specs.declared.refusal.Refusal.{Refusal}
 use Rattle.forest_model.specs.declared.stored.Rec.{Rec}
 use Rattle.doc_stream.specs.Causes.{BreaksRecords}
 use Rattle.doc_stream.specs.Runs.{RecordsOf}
 use Rattle.doc_stream.specs.Scans.{BreaksRest, IsAhead, Scans}
 use Rattle.doc_stream.specs.Shown.{Asked, Shows}
-use Rattle.doc_stream.specs.Steps.{Place}
+use Rattle.doc_stream.specs.Memory.{HasHeadBehind}
+use Rattle.doc_stream.specs.Steps.{Place, in_hand}
 use Rattle.doc_stream.proofs.AddressReads.{cause_asked, refused}
 use Rattle.doc_stream.proofs.Loads.{cause_reason, either_err, same_err}
-use Rattle.doc_stream.proofs.RangeScans.{ahead, low_ahead, scans_both, shown_first, breaks_records, all_records, only_records}
+use Rattle.doc_stream.proofs.RangeScans.{ahead, before_end, hand_none, head_from, low_ahead, scans_both, shown_first, breaks_records, all_records, only_records}
+use Rattle.doc_stream.proofs.Unasked.{same_other}
 use Rattle.doc_stream.proofs.reading.scan.Goals as goal
 
 pub loop-reader-preserved : goal.loop-reader-preserved
@@ -37,6 +39,12 @@ loop-reader-preserved g c =
           (scans_both asked refl file start old new c.loop-reader.records more.0 (inv.scanned told) (subst (λ (f : List Block). Scans asked f old new more.0) (inv.content told) more.2));
       content = λ told. c.in_ok-step.ensures.content told ∙ inv.content told;
       untroubled = c.in_ok-step.ensures.untroubled (λ is. cc) ∙ inv.untroubled;
+      idle = λ none.
+          let at = inv.idle none in
+          let next : old.next ≡ start.next = ap (λ (q : Place). q.next) at.0 in
+          let empty : length old.bytes ≡ 0 = ap (λ (q : Place). length q.bytes) at.0 ∙ c.new-reader.ensures.bytes in
+          let less : (asked.end - new.next) * 4065 + length new.bytes < (asked.end - old.next) * 4065 + length old.bytes = c.in_ok-step.ensures.less in
+          absurd (omega arith);
     }
 
 -- what breaks the rest breaks the records asked
@@ -135,3 +143,69 @@ returns-clause-exact g c told records of =
     only_records asked refl file start (nil_from_length start.bytes c.new-reader.ensures.bytes) c.loop-reader.reader c.loop-reader.records (c.loop-reader.invariant.scanned told) (c.has_bytes.ensures.none c.if-has_bytes.false) (omega arith) records
     (subst (λ (n : ℕ). RecordsOf c.args.rev file n (c.args.to - n) records) (sym c.new-reader.ensures.next) of) in
     inl (ap Ok (sym same))
+
+pub returns-in_err-step-clause-empty : goal.returns-in_err-step-clause-empty
+returns-in_err-step-clause-empty g c none =
+    let start = c.new-reader.result in
+    let from : start.next ≡ c.args.from = c.new-reader.ensures.next in
+    let at = c.loop-reader.invariant.idle (omega arith) in
+    let next : c.loop-reader.reader.next ≡ start.next = ap (λ (q : Place). q.next) at.0 in
+    let empty : length c.loop-reader.reader.bytes ≡ 0 = ap (λ (q : Place). length q.bytes) at.0 ∙ c.new-reader.ensures.bytes in
+    let some : (c.loop-reader.reader.next < c.args.to) ⊎ (1 ≤ length c.loop-reader.reader.bytes) = search rules in
+    let before = before_end c.loop-reader.reader.next c.args.to (length c.loop-reader.reader.bytes) some empty in
+    absurd (omega arith)
+
+pub returns-clause-empty : goal.returns-clause-empty
+returns-clause-empty g c none =
+    let start = c.new-reader.result in
+    let from : start.next ≡ c.args.from = c.new-reader.ensures.next in
+    let at = c.loop-reader.invariant.idle (omega arith) in
+    (ap Ok at.1, at.2)
+
+-- no memory is asked where no record is
+never_asked : {S : Type 0} (result : Result S Refusal) (bytes : List ℕ) (why : Refusal) (revision next : ℕ) (x : S) → result ≡ Err why → length bytes ≡ 0 → (length bytes ≡ 0 → (why ≡ Refusal.DiskFault) ⊎ (why ≡ Refusal.Damaged revision next))
+    → (result ≡ Ok x) ⊎ ((result ≡ Err Refusal.NoMemory) ⊎ (result ≡ Err Refusal.DiskFault)) → (result ≡ Ok x) ⊎ (result ≡ Err Refusal.DiskFault)
+never_asked result bytes why revision next x is none others (inl ok) = inl ok
+never_asked result bytes why revision next x is none others (inr (inr fault)) = inr fault
+never_asked {S} result bytes why revision next x is none others (inr (inl memory)) =
+    let both : ◌≡◌ {A = Result S Refusal} (Err why) (Err Refusal.NoMemory) = sym is ∙ memory in
+    let one : why ≡ Refusal.NoMemory = cc in
+    elim (others none) [
+      | inl fault ↦ (let never : Refusal.DiskFault ≡ Refusal.NoMemory = sym fault ∙ one in absurd cc)
+      | inr damaged ↦ (let never : Refusal.Damaged revision next ≡ Refusal.NoMemory = sym damaged ∙ one in absurd cc)
+    ]
+
+pub returns-in_err-step-clause-no_records : goal.returns-in_err-step-clause-no_records
+returns-in_err-step-clause-no_records g c told of =
+    let p = err_from_is_err_and c.from_residual.result c.from_residual.ensures.1 in
+    let asked : Asked = record { revision = c.args.rev; tail = None; end = c.args.to } in
+    let file = g.V.View.content c.args.view.now in
+    let start = c.new-reader.result in
+    let now = c.loop-reader.reader in
+    let none = hand_none asked refl file start (nil_from_length start.bytes c.new-reader.ensures.bytes) now c.loop-reader.records (c.loop-reader.invariant.scanned told)
+    (subst (λ (n : ℕ). RecordsOf c.args.rev file n (c.args.to - n) []) (sym c.new-reader.ensures.next) of) in
+    never_asked c.from_residual.result now.bytes c.in_err-step.field-0.0 c.args.rev now.next [] (p.1 ∙ ap Err p.2) none c.in_err-step.ensures.memory (returns-in_err-step-clause-exact g c told [] of)
+
+pub returns-clause-no_records : goal.returns-clause-no_records
+returns-clause-no_records g c told of =
+    elim (returns-clause-exact g c told [] of) [
+      | inl ok ↦ inl ok
+      | inr other ↦ elim other [
+        | inl memory ↦ absurd cc
+        | inr fault ↦ inr fault
+      ]
+    ]
+
+pub returns-in_err-step-clause-memory : goal.returns-in_err-step-clause-memory
+returns-in_err-step-clause-memory g c told same =
+    let p = err_from_is_err_and c.from_residual.result c.from_residual.ensures.1 in
+    let asked : Asked = record { revision = c.args.rev; tail = None; end = c.args.to } in
+    let file = g.V.View.content c.args.view.now in
+    let file' = g.V.View.content c.loop-reader.view in
+    let start = c.new-reader.result in
+    let now = c.loop-reader.reader in
+    let inv = c.loop-reader.invariant in
+    let here = c.in_err-step.ensures.head told (same_other c.in_err-step.field-0.0 Refusal.NoMemory c.from_residual.result (p.1 ∙ ap Err p.2) same) in
+    subst (λ (n : ℕ). HasHeadBehind c.args.rev c.args.to file [] n) c.new-reader.ensures.next
+    (head_from asked refl file start (nil_from_length start.bytes c.new-reader.ensures.bytes) now c.loop-reader.records (inv.scanned told)
+    (subst (λ (f : List Block). HasHeadBehind c.args.rev c.args.to f (in_hand now ∷ []) now.next) (inv.content told) here))

@@ -1,4 +1,4 @@
-use Rattle.std.proofs.Common.{◌≡◌, ◌⊎◌, ◌≤◌, ◌<◌, ℕ, List, length, IsTrue}
+use Rattle.std.proofs.Common.{◌≡◌, ◌⊎◌, ◌≤◌, ◌<◌, ℕ, List, [], length, IsTrue}
 use Rattle.doc_stream.specs.Scans.{Scans, still}
 use Rattle.doc_stream.specs.Shown.{Shows}
 use Rattle.doc_stream.specs.Sources.{asked_of}
@@ -12,6 +12,7 @@ invariant-loop-reader g l = record {
   scanned : IsTrue g.V.View.tells → Scans (asked_of l.source) (g.V.View.content l.initial.view) l.initial.reader l.reader l.records;
   content : IsTrue g.V.View.tells → g.V.View.content l.view ≡ g.V.View.content l.initial.view;
   untroubled : g.V.View.faults l.view ≡ g.V.View.faults l.initial.view;
+  idle : l.to ≤ l.initial.reader.next → (l.reader ≡ l.initial.reader) × (l.records ≡ []) × (l.view ≡ l.initial.view);
 }
 
 abbrev pub decreases-loop-reader : goal.decreases-loop-reader

@@ -1,12 +1,14 @@
-use Rattle.std.proofs.Common.{◌≡◌, ◌≤◌, ◌-◌, ℕ, List, length, take, drop, refl, ◌∙◌, arith, subst}
+use Rattle.std.proofs.Common.{◌≡◌, ◌≤◌, ◌-◌, ℕ, List, length, take, drop, Err, refl, ◌∙◌, ap, arith, subst}
 use Rattle.std.proofs.lemmas.Result.{err_from_is_err_and}
 use Rattle.std.proofs.lemmas.List.{length-take-le, length-drop}
 use borrow.Rule.Slice.PartMut.{mid_of, post_of, put_mid, same_len_mid}
 use Rattle.block_host.specs.declared.block.Block.{Block}
+use Rattle.forest_model.specs.declared.refusal.Refusal.TheVariants as Refusal
 use Rattle.doc_stream.specs.Sources.{asked_of}
 use Rattle.doc_stream.specs.Steps.{IsNear, Turns, Stops}
 use Rattle.doc_stream.proofs.Loads.{cause_of}
 use Rattle.doc_stream.proofs.Fills.{fill_more, moved_more, near_after, stops_filling}
+use Rattle.doc_stream.proofs.Unasked.{err_other, short_moved}
 use Rattle.doc_stream.proofs.reader.Reader.fill.Goals as goal
 
 pub returns-in_err-turn-clause-reason : goal.returns-in_err-turn-clause-reason
@@ -53,4 +55,17 @@ loop-filled-preserved g c =
           (inv.taken told) (subst (λ (f : List Block). Turns asked f old mid) (inv.content told) (c.in_ok-turn.ensures.turned told)) c.copy-filled.ensures.next c.copy-filled.ensures.offset c.copy-filled.ensures.taken;
       content = λ told. c.in_ok-turn.ensures.content told ∙ inv.content told;
       untroubled = c.in_ok-turn.ensures.untroubled (λ is. cc) ∙ inv.untroubled;
+      short = λ is. (c.in_ok-turn.ensures.short (short_moved asked place old filled filled inv.moved is)).0 ∙ inv.short is;
     }
+
+pub returns-in_err-turn-clause-short : goal.returns-in_err-turn-clause-short
+returns-in_err-turn-clause-short g c is =
+    let p = err_from_is_err_and c.from_residual.result c.from_residual.ensures.1 in
+    let inv = c.loop-filled.invariant in
+    let now = c.in_err-turn.ensures.short (short_moved (asked_of c.args.source.now) c.args.self.now c.loop-filled.self c.loop-filled.filled c.loop-filled.filled inv.moved is) in
+    (now.0 ∙ inv.short is, err_other c.in_err-turn.field-0.0 Refusal.DiskFault c.from_residual.result (p.1 ∙ ap Err p.2) now.1)
+
+pub returns-in_err-turn-clause-memory : goal.returns-in_err-turn-clause-memory
+returns-in_err-turn-clause-memory g c =
+    let p = err_from_is_err_and c.from_residual.result c.from_residual.ensures.1 in
+    err_other c.in_err-turn.field-0.0 Refusal.NoMemory c.from_residual.result (p.1 ∙ ap Err p.2) c.in_err-turn.ensures.memory

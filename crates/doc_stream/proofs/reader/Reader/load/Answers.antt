@@ -4,6 +4,7 @@ use Rattle.doc_stream.specs.Sources.{asked_of}
 use Rattle.doc_stream.specs.Shown.{IsNotOpen, Stands, Unsealed}
 use Rattle.doc_stream.specs.Steps.{Place}
 use Rattle.doc_stream.proofs.Loads.{loads_others, unsealed, missing_of}
+use Rattle.doc_stream.proofs.Unasked.{open_not}
 use Rattle.doc_stream.proofs.reader.Reader.load.Goals as goal
 
 pub returns-in_err-kind-clause-missing : goal.returns-in_err-kind-clause-missing
@@ -29,3 +30,21 @@ returns-then-kind-ne1-clause-loaded g c told =
     let bytes = take c.in_ok-kind.used c.fetch.new.block.bytes in
     let stands : Stands asked.revision file at c.in_ok-kind.kind bytes = subst (λ (k : ℕ). Stands asked.revision file k c.in_ok-kind.kind bytes) next (c.in_ok-kind.ensures.stands told) in
     loads_others asked file at c.in_ok-kind.kind bytes (record { next = at; offset = 0; bytes = [] }) not stands c.if-kind-ne1.true refl
+
+pub returns-in_err-kind-clause-here : goal.returns-in_err-kind-clause-here
+returns-in_err-kind-clause-here g c here =
+    let tail = (asked_of c.args.source.now).tail in
+    let next : c.self.inside.next ≡ c.args.self.now.next = ap (λ (p : Place). p.next) c.self.view_is in
+    absurd (open_not tail c.args.self.now.next here (subst (λ (k : ℕ). IsNotOpen tail k) next c.in_default.ensures))
+
+pub returns-then-kind-ne1-clause-here : goal.returns-then-kind-ne1-clause-here
+returns-then-kind-ne1-clause-here g c here =
+    let tail = (asked_of c.args.source.now).tail in
+    let next : c.self.inside.next ≡ c.args.self.now.next = ap (λ (p : Place). p.next) c.self.view_is in
+    absurd (open_not tail c.args.self.now.next here (subst (λ (k : ℕ). IsNotOpen tail k) next c.in_default.ensures))
+
+pub returns-clause-here : goal.returns-clause-here
+returns-clause-here g c here =
+    let tail = (asked_of c.args.source.now).tail in
+    let next : c.self.inside.next ≡ c.args.self.now.next = ap (λ (p : Place). p.next) c.self.view_is in
+    absurd (open_not tail c.args.self.now.next here (subst (λ (k : ℕ). IsNotOpen tail k) next c.in_default.ensures))

@@ -1,12 +1,15 @@
-use Rattle.std.proofs.Common.{◌+◌, ◌-◌, List, ◌++◌, refl, sym, ◌∙◌, arith, subst}
+use Rattle.std.proofs.Common.{◌+◌, ◌-◌, List, ◌++◌, Err, refl, sym, ◌∙◌, ap, arith, rules, subst}
 use Rattle.std.proofs.lemmas.Result.{err_from_is_err_and}
 use Rattle.block_host.specs.declared.block.Block.{Block}
 use Rattle.forest_model.specs.declared.stored.Rec.{Rec}
+use Rattle.forest_model.specs.declared.refusal.Refusal.TheVariants as Refusal
+use Rattle.doc_stream.specs.Broken.{IsHead}
 use Rattle.doc_stream.specs.Sources.{asked_of}
 use Rattle.doc_stream.specs.Steps.{IsNear, Takes, Stops, StopsRecord}
 use Rattle.doc_stream.proofs.Loads.{cause_of, cause_damaged}
 use Rattle.doc_stream.proofs.Fills.{moved_both, near_after, near_here, near_more}
 use Rattle.doc_stream.proofs.RecordBytes.{stops_head, stops_kind, stops_parts, takes_record, stops_form}
+use Rattle.doc_stream.proofs.Unasked.{err_other, has_head, short_moved}
 use Rattle.doc_stream.proofs.reader.Reader.record.Goals as goal
 
 pub returns-in_err-fill-clause-reason : goal.returns-in_err-fill-clause-reason
@@ -103,3 +106,46 @@ returns-clause-taken g c told =
     takes_record asked file c.args.self.now c.fill.new.self c.fill.new.out c.fill.auto.out (c.in_ok-fill.ensures.taken told) head.kind head.meta head.key head.body head.store head.seq
     (omega arith) (omega arith) numbers.0 numbers.1 c.in-Some.ensures.head new rec refl c.in_ok-key.ensures.meta c.in_ok-key.ensures.key c.in_ok-key.ensures.body refl refl
     (subst (λ (f : List Block). Takes asked f c.fill.new.self new (rec.key ++ rec.meta ++ rec.body)) (c.in_ok-fill.ensures.content told) (c.in_ok-key.ensures.taken told))
+
+pub returns-in_err-fill-clause-short : goal.returns-in_err-fill-clause-short
+returns-in_err-fill-clause-short g c is =
+    let p = err_from_is_err_and c.from_residual.result c.from_residual.ensures.1 in
+    let now = c.in_err-fill.ensures.short is in
+    (now.0, err_other c.in_err-fill.field-0.0 Refusal.DiskFault c.from_residual.result (p.1 ∙ ap Err p.2) now.1)
+
+pub returns-in_err-fill-clause-memory : goal.returns-in_err-fill-clause-memory
+returns-in_err-fill-clause-memory g c told same =
+    let p = err_from_is_err_and c.from_residual.result c.from_residual.ensures.1 in
+    absurd (err_other c.in_err-fill.field-0.0 Refusal.NoMemory c.from_residual.result (p.1 ∙ ap Err p.2) c.in_err-fill.ensures.memory same)
+
+pub returns-in_err-key-clause-short : goal.returns-in_err-key-clause-short
+returns-in_err-key-clause-short g c is =
+    let p = err_from_is_err_and c.from_residual-in_err-key.result c.from_residual-in_err-key.ensures.1 in
+    let now = c.in_err-key.ensures.short (short_moved (asked_of c.args.source.now) c.args.self.now c.fill.new.self 24 24 c.in_ok-fill.ensures.moved is) in
+    (now.0 ∙ (c.in_ok-fill.ensures.short is).0, err_other c.in_err-key.field-0.0 Refusal.DiskFault c.from_residual-in_err-key.result (p.1 ∙ ap Err p.2) now.1)
+
+pub returns-in_err-key-clause-memory : goal.returns-in_err-key-clause-memory
+returns-in_err-key-clause-memory g c told same =
+    let asked = asked_of c.args.source.now in
+    let file = g.V.View.content c.args.view.now in
+    let h = c.in-Some.head in
+    let is : IsHead c.fill.new.out (h.key + h.meta + h.body) = record { kind = h.kind; meta = h.meta; key = h.key; body = h.body; store = h.store; seq = h.seq; allowed = c.in-Some.ensures.allowed; behind = refl; is = c.in-Some.ensures.head } in
+    has_head asked file c.args.self.now c.fill.new.self c.fill.new.out (h.key + h.meta + h.body) is (c.in_ok-fill.ensures.taken told)
+
+pub returns-then-not-has_form-clause-short : goal.returns-then-not-has_form-clause-short
+returns-then-not-has_form-clause-short g c is =
+    let now = c.in_ok-key.ensures.short (short_moved (asked_of c.args.source.now) c.args.self.now c.fill.new.self 24 24 c.in_ok-fill.ensures.moved is) in
+    (now.0 ∙ (c.in_ok-fill.ensures.short is).0, search rules)
+
+pub returns-clause-short : goal.returns-clause-short
+returns-clause-short g c is =
+    let now = c.in_ok-key.ensures.short (short_moved (asked_of c.args.source.now) c.args.self.now c.fill.new.self 24 24 c.in_ok-fill.ensures.moved is) in
+    (now.0 ∙ (c.in_ok-fill.ensures.short is).0, λ same. cc)
+
+pub returns-clause-head : goal.returns-clause-head
+returns-clause-head g c told =
+    let asked = asked_of c.args.source.now in
+    let file = g.V.View.content c.args.view.now in
+    let h = c.in-Some.head in
+    let is : IsHead c.fill.new.out (h.key + h.meta + h.body) = record { kind = h.kind; meta = h.meta; key = h.key; body = h.body; store = h.store; seq = h.seq; allowed = c.in-Some.ensures.allowed; behind = refl; is = c.in-Some.ensures.head } in
+    has_head asked file c.args.self.now c.fill.new.self c.fill.new.out (h.key + h.meta + h.body) is (c.in_ok-fill.ensures.taken told)

@@ -1,4 +1,4 @@
-use Rattle.std.proofs.Common.{◌≡◌, ◌+◌, ◌-◌, ℕ, Bool, true, false, sym, arith, subst}
+use Rattle.std.proofs.Common.{◌≡◌, ◌+◌, ◌-◌, ℕ, Bool, true, false, Err, sym, ◌∙◌, ap, arith, subst}
 use Rattle.std.proofs.lemmas.Result.{err_from_is_err_and}
 use Rattle.doc_stream.specs.Sources.{asked_of}
 use Rattle.doc_stream.specs.Shown.{Unsealed}
@@ -6,6 +6,7 @@ use Rattle.doc_stream.specs.Steps.{IsNear, IsWithin, Loads, Stops}
 use Rattle.doc_stream.proofs.Fills.{near_back, near_on}
 use Rattle.doc_stream.proofs.Loads.{cause_damaged, cause_missing}
 use Rattle.doc_stream.proofs.Steps.{stops_short, stops_end, stops_unsealed, stops_other, stops_empty, turned}
+use Rattle.doc_stream.proofs.Unasked.{missing_memory, short_full}
 use Rattle.doc_stream.proofs.reader.Reader.turn.Goals as goal
 
 pub returns-then-ends_at-clause-reason : goal.returns-then-ends_at-clause-reason
@@ -79,3 +80,26 @@ returns-clause-turned g c told =
     let within : IsWithin asked.tail asked.end (place.next + 1) = subst (λ (n : ℕ). IsWithin asked.tail asked.end (n + 1)) c.next.ensures (c.ends_at.ensures.later c.if-ends_at.false) in
     let loads : Loads asked file place.next c.load.new.self true = subst (λ (b : Bool). Loads asked file place.next c.load.new.self b) c.if-not-branch.false (c.in_ok-load.ensures.loaded told) in
     turned asked file place (c.has_bytes.ensures.none c.if-has_bytes.false) c.requires.first c.load.new.self (c.is_full.ensures.yes c.if-not-is_full.false) c.in_ok-load.ensures.next loads.0 (c.has_bytes-2.ensures.yes c.if-not-has_bytes.false) within loads.1
+
+pub returns-then-ends_at-clause-short : goal.returns-then-ends_at-clause-short
+returns-then-ends_at-clause-short g c short = absurd (short_full c.args.self.now (c.is_full.ensures.yes c.if-not-is_full.false) short)
+
+pub returns-in_err-load-clause-short : goal.returns-in_err-load-clause-short
+returns-in_err-load-clause-short g c short = absurd (short_full c.args.self.now (c.is_full.ensures.yes c.if-not-is_full.false) short)
+
+pub returns-then-not-branch-clause-short : goal.returns-then-not-branch-clause-short
+returns-then-not-branch-clause-short g c short = absurd (short_full c.args.self.now (c.is_full.ensures.yes c.if-not-is_full.false) short)
+
+pub returns-then-not-has_bytes-clause-short : goal.returns-then-not-has_bytes-clause-short
+returns-then-not-has_bytes-clause-short g c short = absurd (short_full c.args.self.now (c.is_full.ensures.yes c.if-not-is_full.false) short)
+
+pub returns-clause-short : goal.returns-clause-short
+returns-clause-short g c short = absurd (short_full c.args.self.now (c.is_full.ensures.yes c.if-not-is_full.false) short)
+
+pub returns-in_err-load-clause-memory : goal.returns-in_err-load-clause-memory
+returns-in_err-load-clause-memory g c =
+    let p = err_from_is_err_and c.from_residual.result c.from_residual.ensures.1 in
+    let asked = asked_of c.args.source.now in
+    let file = g.V.View.content c.args.view.now in
+    let at = c.args.self.now.next in
+    missing_memory g.V.View.tells asked.revision at (Unsealed asked file at) (g.V.View.faults c.args.view.now) (g.V.View.faults c.load.new.view) c.in_err-load.field-0.0 c.from_residual.result (p.1 ∙ ap Err p.2) c.in_err-load.ensures.missing

@@ -30,3 +30,18 @@ returns-clause-put c =
     c.head_of.ensures.value c.as_slice.ensures c.as_slice-2.ensures c.as_slice-3.ensures c.reserve.ensures.items
     c.put_bytes-2.ensures.not_full c.put_bytes-3.ensures.not_full c.put_bytes-4.ensures.not_full
     c.put_bytes.ensures.put c.put_bytes-2.ensures.put c.put_bytes-3.ensures.put c.put_bytes-4.ensures.put
+
+pub returns-in_err-reserve-clause-room : goal.returns-in_err-reserve-clause-room
+returns-in_err-reserve-clause-room c room =
+    let needed = c.needed.ensures in
+    let long = c.len_of.ensures.value in
+    let full = c.in_err-reserve.ensures.full in
+    absurd (omega arith)
+
+pub returns-in_err-reserve-clause-fits : goal.returns-in_err-reserve-clause-fits
+returns-in_err-reserve-clause-fits c fits =
+    let needed = c.needed.ensures in
+    let long = c.len_of.ensures.value in
+    let full = c.in_err-reserve.ensures.full in
+    let held = c.args.out.now.ok.0 in
+    absurd (omega arith)
