@@ -11,8 +11,8 @@ use Rattle.forest_model.specs.declared.refusal.Refusal.{Refusal}
 use Rattle.btree_cow.specs.Shelf.{Shelf, Stored, is_stored}
 use Rattle.btree_cow.specs.Trees.{lies_in, Fan, NodeAt, TreeAt, nearest, value_of}
 use Rattle.btree_cow.specs.Causes.{IsAmong, Way, IsNoNode, BreaksTree, Reason}
-use Rattle.btree_cow.specs.Walks.{IsSibling, IsChoice, WayFor, EndsAt, Reaches, edge, first_of}
-use Rattle.btree_cow.specs.Finds.{Remains, Finds, IsWithin, next_place, lie_under}
+use Rattle.btree_cow.specs.Walks.{IsSibling, IsChoice, WayBeside, EndsAt, ReachesBeside, edge, first_of}
+use Rattle.btree_cow.specs.Finds.{Remains, Finds, IsWithin, block_of, next_place, lie_under}
 use Rattle.btree_cow.specs.declared.walk.Place.{Place}
 use Rattle.btree_cow.proofs.Finds.{or_found, or_nothing, or_assoc}
 use Rattle.btree_cow.proofs.Fans.{tree_inside, tree_some, tree_fit}
@@ -77,7 +77,7 @@ pub record IsWalk (tells : Bool) (s : Shelf) (from here : Place) (second : Optio
   pub beyond : IfSome second (λ (place : Place). IsWithin tells s from place)
   pub links : ℕ
   pub deep : here.depth ≡ from.depth + links
-  pub way_for : IsTrue tells → WayFor s up q links from.at here.at
+  pub way_beside : IsTrue tells → WayBeside s up q links from.at None here.at (block_of second)
   pub leads : IsTrue tells → (ok : ℕ → ℕ → Bool) (height least low : ℕ) (high : Option ℕ) (entries : List Entry) → TreeAt ok s height least from.at low high entries → Leads ok s here.at second with up q entries
 
 pub first_none : (up : Bool) → first_of up [] ≡ None
@@ -90,7 +90,7 @@ walk_starts tells s from with up q few = record {
   beyond = tt;
   links = 0;
   deep = omega arith;
-  way_for = λ told. refl;
+  way_beside = λ told. (refl, refl);
   leads = λ told ok height least low high entries tree. record {
     height = height;
     least = least;
@@ -111,9 +111,16 @@ way_more : (s : Shelf) (depth root at : ℕ) (children : List Entry) (c : Entry)
 way_more s zero root at children c way node is = (children, c, subst (λ (b : ℕ). NodeAt s b false children) (sym way) node, is, refl)
 way_more s (suc depth) root at children c way node is = (way.0, way.1, way.2, way.3, way_more s depth way.1.1 at children c way.4 node is)
 
-way_for_more : (s : Shelf) (up : Bool) (q links from at : ℕ) (children : List Entry) (child : ℕ) (sibling : Option ℕ) → WayFor s up q links from at → NodeAt s at false children → IsChoice up q children child sibling → WayFor s up q (suc links) from child
-way_for_more s up q zero from at children child sibling way node ch = (children, subst (λ (b : ℕ). NodeAt s b false children) (sym way) node, child, sibling, ch, refl)
-way_for_more s up q (suc links) from at children child sibling way node ch = (way.0, way.1, way.2, way.3, way.4, way_for_more s up q links way.2 at children child sibling way.5 node ch)
+way_beside_more : (s : Shelf) (up : Bool) (q links from : ℕ) (earlier : Option ℕ) (at : ℕ) (last : Option ℕ) (children : List Entry) (child : ℕ) (sibling : Option ℕ)
+    → WayBeside s up q links from earlier at last → NodeAt s at false children → IsChoice up q children child sibling → WayBeside s up q (suc links) from earlier child (option_or sibling last)
+way_beside_more s up q zero from earlier at last children child sibling way node ch =
+    (children, subst (λ (b : ℕ). NodeAt s b false children) (sym way.0) node, child, sibling, ch, (refl, ap (λ (o : Option ℕ). option_or sibling o) way.1))
+way_beside_more s up q (suc links) from earlier at last children child sibling way node ch =
+    (way.0, way.1, way.2, way.3, way.4, way_beside_more s up q links way.2 (option_or way.3 earlier) at last children child sibling way.5 node ch)
+
+block_of_next : (sibling : Option ℕ) (depth : ℕ) (second : Option Place) → option_or sibling (block_of second) ≡ block_of (next_place sibling depth second)
+block_of_next None depth second = refl
+block_of_next (Some at) depth second = refl
 
 one_deeper : (tells : Bool) (s : Shelf) (from here : Place) (children : List Entry) (c : Entry) (child : ℕ) → IsWithin tells s from here → here.depth < 9 → (IsTrue tells → NodeAt s here.at false children) → IsAmong c children → c.1 ≡ child
     → IsWithin tells s from (record { at = child; depth = here.depth + 1 })
@@ -198,7 +205,9 @@ walk_goes_on tells s from here second with up q page children child sibling w fe
       within = one_deeper tells s from here children mine.0 child w.within few there mine.1 mine.2;
       links = suc w.links;
       deep = omega (arith, w.deep);
-      way_for = λ told. way_for_more s up q w.links from.at here.at children child sibling (w.way_for told) (there told) ch;
+      way_beside = λ told.
+          subst (λ (last : Option ℕ). WayBeside s up q (suc w.links) from.at None child last) (block_of_next sibling (here.depth + 1) second)
+          (way_beside_more s up q w.links from.at None here.at (block_of second) children child sibling (w.way_beside told) (there told) ch);
       beyond = beyond_more tells s from here second up q children child sibling w.within few there ch w.beyond;
       leads = λ told ok height least low high entries tree.
           let l = w.leads told ok height least low high entries tree in
@@ -250,8 +259,10 @@ ends_before tells s from here second with up q page children w node stored down 
       remains = l.remains;
     }
 
-pub reaches : (tells : Bool) (s : Shelf) (from here : Place) (second : Option Place) (with up : Bool) (q : ℕ) (entry : Option Entry) → IsWalk tells s from here second with up q → EndsAt s with up q here.at entry → IsTrue tells → Reaches s with up q from.at entry
-reaches tells s from here second with up q entry w end told = record { links = w.links; few = omega (arith, w.deep, w.within.shallow); block = here.at; way = w.way_for told; end = end }
+pub reaches : (tells : Bool) (s : Shelf) (from here : Place) (second : Option Place) (with up : Bool) (q : ℕ) (entry : Option Entry) → IsWalk tells s from here second with up q → EndsAt s with up q here.at entry
+    → IsTrue tells → ReachesBeside s with up q from.at entry (block_of second)
+reaches tells s from here second with up q entry w end told =
+    record { links = w.links; few = omega (arith, w.deep, w.within.shallow); block = here.at; way = w.way_beside told; end = end }
 
 -- from the edge a walk finds an entry in any node
 pub leaf_has : (with up : Bool) (q : ℕ) (page : Page) (leaf : List Entry) (entry : Option Entry) → IsNode page true leaf → entry ≡ nearest with up leaf q → with ≡ true → q ≡ edge up → is_some entry ≡ true

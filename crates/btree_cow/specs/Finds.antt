@@ -29,6 +29,11 @@ pub record IsWithin (tells : Bool) (s : Shelf) (from place : Place) : Type 0 whe
   pub shallow : place.depth ≤ 9
   pub way : IsTrue tells → (root : ℕ) → Way s from.depth root from.at → Way s place.depth root place.at
 
+-- the block of a place
+abbrev pub block_of : Option Place → Option ℕ
+block_of None = None
+block_of (Some place) = Some place.at
+
 abbrev pub next_place : Option ℕ → ℕ → Option Place → Option Place
 next_place None depth second = second
 next_place (Some at) depth second = Some (record { at = at; depth = depth })

@@ -70,13 +70,41 @@ pub record Reaches (s : Shelf) (with up : Bool) (q at : ℕ) (entry : Option Ent
   pub way : WayFor s up q links at block
   pub end : EndsAt s with up q block entry
 
--- the value of a chunk in the leaf at the end of its way, or none over an inner node with all its chunks above
+-- so many links lead down as in `WayFor`, and the sibling beside the last of them that has one, else the earlier one
+abbrev pub WayBeside : Shelf → Bool → ℕ → ℕ → ℕ → Option ℕ → ℕ → Option ℕ → Type 0
+WayBeside s up q zero at earlier block last = (at ≡ block) × (last ≡ earlier)
+WayBeside s up q (suc more) at earlier block last =
+    (children : List Entry) × NodeAt s at false children × (child : ℕ) × (sibling : Option ℕ) × IsChoice up q children child sibling
+    × WayBeside s up q more child (option_or sibling earlier) block last
+
+-- what a search finds as in `Reaches`, and the sibling beside its way that is nearest to the end, where there is one
+pub record ReachesBeside (s : Shelf) (with up : Bool) (q at : ℕ) (entry : Option Entry) (last : Option ℕ) : Type 0 where
+  pub links : ℕ
+  pub few : links ≤ 9
+  pub block : ℕ
+  pub way : WayBeside s up q links at None block last
+  pub end : EndsAt s with up q block entry
+
+-- the value of a chunk where its way ends: in a leaf that of its entry, over an inner node with all chunks above none
 abbrev pub HasValue : Shelf → ℕ → ℕ → Option ℕ → Type 0
 HasValue s q block value =
     ((leaf : List Entry) × NodeAt s block true leaf × (value ≡ value_of leaf q))
     ⊎ ((children : List Entry) × NodeAt s block false children × IsTrue (list_all (λ (e : Entry). nat_lt q e.0) children) × (value ≡ None))
 
--- what a look-up answers from any blocks: what stands at the end of the chunk's way, each block of which is a node
+-- the value of a chunk by any blocks: none of no root, else that at the end of its way of nine links at most, each block
+-- of which is a node
 abbrev pub ReadsValue : Shelf → Option ℕ → ℕ → Option ℕ → Type 0
 ReadsValue s None q value = value ≡ None
 ReadsValue s (Some at) q value = (links : ℕ) × (links ≤ 9) × (block : ℕ) × WayFor s false q links at block × HasValue s q block value
+
+-- what a search answers by the entry at the end of its way, else by the first one of the sibling nearest to the end
+abbrev pub GoesOnIn : Shelf → Bool → Option Entry → Option ℕ → Option Entry → Type 0
+GoesOnIn s up (Some e) last entry = entry ≡ Some e
+GoesOnIn s up None None entry = entry ≡ None
+GoesOnIn s up None (Some at) entry = Reaches s true up (edge up) at entry
+
+-- the nearest entry by any blocks: none of no root, else that at the end of the chunk's way or where the search goes on,
+-- each block on both ways being a node
+abbrev pub ReadsNext : Shelf → Bool → Bool → Option ℕ → ℕ → Option Entry → Type 0
+ReadsNext s with up None q entry = entry ≡ None
+ReadsNext s with up (Some at) q entry = (first : Option Entry) × (last : Option ℕ) × ReachesBeside s with up q at first last × GoesOnIn s up first last entry

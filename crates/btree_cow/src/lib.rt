@@ -2,14 +2,18 @@
 //! (`docs/FORMAT.md`, nodes). A change appends new nodes and touches no old one.
 //!
 //! It promises that a look-up in blocks that stand for a list of entries answers from this list, and that on any
-//! other blocks it ends after at most twice ten pages, naming the block that is wrong. An insert promises a new root
-//! that stands for the entries with the value for the chunk, and every node that it adds has at least 126 entries or
-//! is the root. A removal promises the same without the chunk, and no root where no entry is left. A run of changes
-//! promises what they make of the entries in their order.
+//! other blocks it ends, naming the block that is wrong. An insert promises a new root that stands for the entries with
+//! the value for the chunk, and every node that it adds has at least 126 entries or is the root. A removal promises the
+//! same without the chunk, and no root where no entry is left. A run of changes promises what they make of the entries
+//! in their order.
 //!
-//! On any blocks it promises that a look-up answers what stands at the end of the chunk's way, each block of which is a
-//! node; that a change appends copies of the nodes on its way, with all their other children, and no block more; and
-//! that a damaged block lies below the root that was given, or below one that an earlier change of the same run made.
+//! On any blocks it promises that `find` answers what stands at the end of the chunk's way, and `next` the entry there,
+//! else the first one below the sibling nearest to this end, each block on these ways being a node; that a change
+//! appends copies of the nodes on its way, with all their other children, and no block more; and that a damaged block
+//! lies below the root that was given, or below one that an earlier change of the same run made.
+//!
+//! `find` asks for at most ten pages, one a level. `next` asks for at most nineteen: ten down the chunk's way, and nine
+//! down from the sibling, which stands below the root.
 #![tactic(auto)]
 
 mod applying;

@@ -2,7 +2,7 @@ ghost use Rattle.std.specs.Prelude.{false, Some, ◌≡◌, ◌≤◌, ℕ, Bool
 ghost use Rattle.forest_model.specs.declared.refusal.Refusal.TheVariants as Refusal;
 ghost use Rattle.node_page.specs.Nodes.{Entry};
 ghost use Rattle.btree_cow.specs.Trees.{Tree, value_of, nearest};
-ghost use Rattle.btree_cow.specs.Walks.{ReadsValue, WayFor, edge};
+ghost use Rattle.btree_cow.specs.Walks.{ReadsValue, ReadsNext, WayFor, edge};
 ghost use Rattle.btree_cow.specs.Finds.{value_in};
 ghost use Rattle.btree_cow.specs.Causes.{BreaksFrom, IsNoNode, Reason};
 
@@ -35,7 +35,9 @@ pub fn find<P: Pages>(pages: &mut P, root: Option<u64>, chunk: u64) -> Result<Op
     Ok(value_at(found.entry, chunk))
 }
 
-/// The entry nearest to a chunk, above or below it, or of the chunk itself if `with`.
+/// The entry nearest to a chunk, above or below it, or of the chunk itself if `with`. On any blocks it is that of the leaf
+/// at the end of the chunk's way, else the first one below the sibling nearest to this end; and there is no answer where
+/// a block on the ways to them is no node.
 pub fn next<P: Pages>(
     pages: &mut P,
     root: Option<u64>,
@@ -44,6 +46,8 @@ pub fn next<P: Pages>(
     up: bool,
 ) -> Result<Option<(u64, u64)>, Refusal>
     ensures found { IsTrue P.tells → (ok : ℕ → ℕ → Bool) (entries : List Entry) → Tree ok (P.shelf pages.old) root entries → IfOk result (λ entry. entry ≡ nearest with up entries chunk) }
+    ensures read { IsTrue P.tells → IfOk result (ReadsNext (P.shelf pages.old) with up root chunk) }
+    ensures broken { IsTrue P.tells → (at links block : ℕ) → root ≡ Some at → WayFor (P.shelf pages.old) up chunk links at block → IsNoNode (P.shelf pages.old) block → IfOk result (λ _. ⊥) }
     ensures stands { IsTrue P.tells → (ok : ℕ → ℕ → Bool) (entries : List Entry) → Tree ok (P.shelf pages.old) root entries → IfErr result (λ why. why ≡ Refusal.DiskFault) }
     ensures reason { IfErr result (Reason P.tells (P.shelf pages.old).file (BreaksFrom (P.shelf pages.old) root) (P.faults pages.old) (P.faults pages.new)) }
     ensures kept { P.shelf pages.new ≡ P.shelf pages.old }

@@ -6,8 +6,8 @@ ghost use Rattle.node_page.specs.Nodes.{Entry, IsNode};
 ghost use Rattle.btree_cow.specs.Shelf.{is_stored};
 ghost use Rattle.btree_cow.specs.Trees.{TreeAt};
 ghost use Rattle.btree_cow.specs.Causes.{Way, IsAmong, IsNoNode, BreaksTree, Reason};
-ghost use Rattle.btree_cow.specs.Walks.{IsChoice, Reaches, edge};
-ghost use Rattle.btree_cow.specs.Finds.{Finds, IsWithin, next_place, lie_under};
+ghost use Rattle.btree_cow.specs.Walks.{IsChoice, ReachesBeside, edge};
+ghost use Rattle.btree_cow.specs.Finds.{Finds, IsWithin, block_of, next_place, lie_under};
 
 use crate::Pages;
 use crate::node_search::{Aim, Choice, choose, nearest_in};
@@ -36,7 +36,7 @@ pub(crate) fn walk<P: Pages>(pages: &mut P, from: Place, aim: Aim) -> Result<Wal
     requires { from.depth ≤ 9 }
     ensures found { IsTrue P.tells → (ok : ℕ → ℕ → Bool) (height least low : ℕ) (high : Option ℕ) (entries : List Entry) → TreeAt ok (P.shelf pages.old) height least from.at low high entries → IfOk result (λ w. Finds ok (P.shelf pages.old) aim.with aim.up aim.chunk entries w.entry w.second) }
     ensures reason { IfErr result (λ why. (root : ℕ) → (IsTrue P.tells → Way (P.shelf pages.old) from.depth root from.at) → Reason P.tells (P.shelf pages.old).file (BreaksTree (P.shelf pages.old) root) (P.faults pages.old) (P.faults pages.new) why) }
-    ensures reached { IsTrue P.tells → IfOk result (λ w. Reaches (P.shelf pages.old) aim.with aim.up aim.chunk from.at w.entry) }
+    ensures reached { IsTrue P.tells → IfOk result (λ w. ReachesBeside (P.shelf pages.old) aim.with aim.up aim.chunk from.at w.entry (block_of w.second)) }
     ensures within { IfOk result (λ w. IfSome w.second (λ place. IsWithin P.tells (P.shelf pages.old) from place)) }
     ensures all { aim.with ≡ true → aim.chunk ≡ edge aim.up → IfOk result (λ w. IsTrue (is_some w.entry)) }
     ensures kept { P.shelf pages.new ≡ P.shelf pages.old }

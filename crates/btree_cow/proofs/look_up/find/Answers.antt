@@ -3,6 +3,7 @@ use Rattle.std.specs.Prelude.{Option, None, Ok}
 use Rattle.std.proofs.lemmas.Option.{none-some}
 use Rattle.std.proofs.lemmas.Result.{err_from_is_err_and}
 use Rattle.btree_cow.specs.Trees.{Tree}
+use Rattle.btree_cow.specs.Finds.{block_of}
 use Rattle.btree_cow.proofs.Breaks.{only_disk}
 use Rattle.btree_cow.proofs.Answered.{reads_value, reason_from, value_found}
 use Rattle.btree_cow.proofs.Ways.{never_read}
@@ -31,7 +32,7 @@ returns-clause-found g c = λ told ok entries tree.
 
 pub returns-clause-read : goal.returns-clause-read
 returns-clause-read g c = λ told.
-    reads_value (g.P.Pages.shelf c.args.pages.now) c.args.root c.in-Some.at c.args.chunk c.in_ok-found.found.entry c.value_at.result c.in-Some.is (c.in_ok-found.ensures.reached told) c.value_at.ensures
+    reads_value (g.P.Pages.shelf c.args.pages.now) c.args.root c.in-Some.at c.args.chunk c.in_ok-found.found.entry (block_of c.in_ok-found.found.second) c.value_at.result c.in-Some.is (c.in_ok-found.ensures.reached told) c.value_at.ensures
 
 pub returns-clause-broken : goal.returns-clause-broken
 returns-clause-broken g c = λ told. never_read (Ok c.value_at.result) (g.P.Pages.shelf c.args.pages.now) c.args.root c.args.chunk (returns-clause-read g c told)

@@ -1,13 +1,14 @@
-use Rattle.std.proofs.Common.{refl, sym, subst}
+use Rattle.std.proofs.Common.{refl, sym, ◌∙◌, subst}
 use Rattle.std.specs.Prelude.{Option, IfSome, IsTrue}
 use Rattle.std.proofs.lemmas.Result.{err_from_is_err_and}
 use Rattle.btree_cow.specs.Shelf.{Shelf}
 use Rattle.btree_cow.specs.Causes.{Reason, BreaksFrom, Way}
-use Rattle.btree_cow.specs.Finds.{IsWithin}
+use Rattle.btree_cow.specs.Finds.{IsWithin, block_of}
 use Rattle.btree_cow.specs.declared.walk.Place.{Place}
 use Rattle.btree_cow.proofs.Finds.{ok_never}
 use Rattle.btree_cow.proofs.Breaks.{only_disk}
-use Rattle.btree_cow.proofs.Answered.{reason_from, reason_then}
+use Rattle.btree_cow.proofs.Answered.{goes_on, reads_next, reason_from, reason_then}
+use Rattle.btree_cow.proofs.Ways.{never_next}
 use Rattle.btree_cow.proofs.look_up.next.Given
 use Rattle.btree_cow.proofs.look_up.next.Goals as goal
 
@@ -47,3 +48,24 @@ returns-in_err-first-clause-stands g c = λ told ok entries tree.
     rw (p.1, p.2)
     (only_disk g.P.Pages.tells ok (g.P.Pages.shelf c.args.pages.now) c.args.root entries (g.P.Pages.shelf c.args.pages.now).file (g.P.Pages.faults c.args.pages.now) (g.P.Pages.faults c.walk-2.new.pages) c.in_err-first.field-0.0 told tree
     (again g c))
+
+pub returns-clause-read : goal.returns-clause-read
+returns-clause-read g c = λ told.
+    let s = g.P.Pages.shelf c.args.pages.now in
+    let near = c.in_ok-near.near in
+    let first = c.in_ok-first.first in
+    reads_next s c.args.with c.args.up c.args.root c.in-Some.at c.args.chunk near.entry (block_of near.second) first.entry c.in-Some.is (c.in_ok-near.ensures.reached told)
+    (goes_on s (g.P.Pages.shelf c.walk.new.pages) c.from_edge.result.with c.args.up c.from_edge.result.up c.from_edge.result.chunk near.entry near.second c.in-Some-second.place first.entry (block_of first.second)
+    (sym c.is_some.ensures ∙ c.if-is_some.false) c.in-Some-second.is c.in_ok-near.ensures.kept c.from_edge.ensures.with c.from_edge.ensures.up c.from_edge.ensures.chunk (c.in_ok-first.ensures.reached told))
+
+pub returns-then-is_some-clause-broken : goal.returns-then-is_some-clause-broken
+returns-then-is_some-clause-broken g c = λ told.
+    never_next (g.P.Pages.shelf c.args.pages.now) c.args.with c.args.up c.args.root c.in-Some.at c.args.chunk c.in_ok-near.near.entry (block_of c.in_ok-near.near.second) c.in-Some.is (c.in_ok-near.ensures.reached told)
+
+pub returns-in_default-second-clause-broken : goal.returns-in_default-second-clause-broken
+returns-in_default-second-clause-broken g c = λ told.
+    never_next (g.P.Pages.shelf c.args.pages.now) c.args.with c.args.up c.args.root c.in-Some.at c.args.chunk c.in_ok-near.near.entry (block_of c.in_ok-near.near.second) c.in-Some.is (c.in_ok-near.ensures.reached told)
+
+pub returns-clause-broken : goal.returns-clause-broken
+returns-clause-broken g c = λ told.
+    never_next (g.P.Pages.shelf c.args.pages.now) c.args.with c.args.up c.args.root c.in-Some.at c.args.chunk c.in_ok-near.near.entry (block_of c.in_ok-near.near.second) c.in-Some.is (c.in_ok-near.ensures.reached told)
