@@ -16,8 +16,6 @@ use Rattle.btree_cow.specs.Copies.{Inserts}
 use Rattle.btree_cow.specs.Takes.{ApplyFails, MakesChange, Runs, Takes}
 use Rattle.btree_cow.specs.Changes.{Change, ChangeFails, SameLimits, is_absent, StaysWell, after_change, after_changes, is_well, put_well}
 use Rattle.btree_cow.proofs.Finds.{all_so}
-use Rattle.btree_cow.proofs.Copies.{few_of_insert}
-use Rattle.btree_cow.proofs.Takes.{few_of_removal}
 use Rattle.btree_cow.proofs.Growth.{later_on, later_same}
 use Rattle.btree_cow.proofs.Contents.{any_value, any_well, root_any}
 
@@ -28,6 +26,7 @@ pub record Applies (tells : Bool) (old new : Shelf) (before after : ℕ) (root a
   pub same : after ≡ before
   pub done : List Change
   pub split : changes ≡ done ++ rest
+  pub few : new.used + 21 * length rest ≤ old.used + 21 * length changes
   pub run : IsTrue tells → Runs done root old new at
   pub still : IsTrue tells → (ok : ℕ → ℕ → Bool) (entries : List Entry) → Tree ok old root entries → IsTrue (list_all (is_absent entries) changes)
       → (at ≡ root) × (new ≡ old) × IsTrue (list_all (is_absent entries) rest)
@@ -74,6 +73,7 @@ applies_start tells s x root changes = record {
   same = refl;
   done = [];
   split = refl;
+  few = omega arith;
   run = λ told. (refl, refl);
   still = λ told ok entries tree none. (refl, refl, none);
   stands = λ told ok entries well puts tree. (entries, tree, refl, puts);
@@ -83,6 +83,14 @@ pub runs_whole : (tells : Bool) (old new : Shelf) (x y : ℕ) (root at : Option 
 runs_whole tells old new x y root at changes n all a told =
     subst (λ (l : List Change). Runs l root old new at)
     (sym (append-nil a.done) ∙ ap (λ (l : List Change). a.done ++ l) (sym (drop_all n changes all)) ∙ sym a.split) (a.run told)
+
+-- no more for a change that failed than for one that was made
+pub left_few : (tells : Bool) (old mid new : Shelf) (x y : ℕ) (root at : Option ℕ) (changes : List Change) (n : ℕ) → n < length changes → Applies tells old mid x y root at changes (drop n changes) → new.used ≤ mid.used + 21
+    → new.used ≤ old.used + 21 * length changes
+left_few tells old mid new x y root at changes n less a few =
+    let b : Applies tells old mid x y root at changes (get_or changes n (0, None) ∷ drop (n + 1) changes) =
+    subst (λ (l : List Change). Applies tells old mid x y root at changes l) (drop_more changes n (0, None) less) a in
+    omega (arith, b.few, few)
 
 pub left_fails : (tells : Bool) (old mid new : Shelf) (x y z : ℕ) (root at : Option ℕ) (changes rest : List Change) (why : Refusal) → Applies tells old mid x y root at changes rest → (IsTrue tells → Later mid new) → ChangeFails tells mid new at y z why → ApplyFails tells old new root changes x z why
 left_fails tells old mid new x y z root at changes rest why a goes_on (inl disk) = inl (disk.0, subst (λ (n : ℕ). risen n ≤ z) a.same disk.1)
@@ -95,32 +103,22 @@ left_fails tells old mid new x y z root at changes rest why a goes_on (inr (inr 
       λ told. record { done = a.done; rest = rest; split = a.split; mid = mid; later = a.later told; at = at; run = a.run told; goes_on = goes_on told; broken = damaged.2 told },
     ))
 
--- ---- how many blocks
-
-few_of_change : (c : Change) (root next : Option ℕ) (old new : Shelf) → MakesChange c root old new next → new.used ≤ old.used + 21
-few_of_change (chunk, Some value) root next old new made = few_of_insert root chunk value made.0 old new made.3
-few_of_change (chunk, None) root next old new made = omega (arith, few_of_removal root chunk old new next made)
-
-pub few_of_run : (changes : List Change) (root at : Option ℕ) (old new : Shelf) → Runs changes root old new at → new.used ≤ old.used + 21 * length changes
-few_of_run [] root at old new run = subst (λ (s : Shelf). s.used ≤ old.used + 0) (sym run.0) (omega arith)
-few_of_run (c ∷ changes) root at old new run =
-    omega (arith, few_of_change c root run.1 old run.0 run.3, few_of_run changes run.1 at run.0 new run.4)
-
 -- ---- one change more
 
 stays : (ok : ℕ → ℕ → Bool) (at later : ℕ) (c : Change) → StaysWell ok → at ≤ later → is_well ok at c ≡ true → is_well ok later c ≡ true
 stays ok at later (chunk, None) well le h = refl
 stays ok at later (chunk, Some value) well le h = well at later value le h
 
-pub applies_next : (tells : Bool) (old mid new : Shelf) (x y z : ℕ) (root at at' : Option ℕ) (changes rest : List Change) (c : Change) → Applies tells old mid x y root at changes (c ∷ rest) → (IsTrue tells → Later mid new) → SameLimits mid new → z ≡ y
+pub applies_next : (tells : Bool) (old mid new : Shelf) (x y z : ℕ) (root at at' : Option ℕ) (changes rest : List Change) (c : Change) → Applies tells old mid x y root at changes (c ∷ rest) → (IsTrue tells → Later mid new) → SameLimits mid new → new.used ≤ mid.used + 21 → z ≡ y
     → (IsTrue tells → (ok : ℕ → ℕ → Bool) (entries : List Entry) → StaysWell ok → IsTrue (is_well ok mid.used c) → Tree ok mid at entries → Tree ok new at' (after_change entries c)) → (IsTrue tells → MakesChange c at mid new at')
     → (IsTrue tells → (ok : ℕ → ℕ → Bool) (entries : List Entry) → Tree ok mid at entries → IsTrue (is_absent entries c) → (at' ≡ at) × (new ≡ mid)) → Applies tells old new x z root at' changes rest
-applies_next tells old mid new x y z root at at' changes rest c a later limits same stands made gone = record {
+applies_next tells old mid new x y z root at at' changes rest c a later limits few same stands made gone = record {
   later = λ told. later_on old mid new (a.later told) (later told);
   limits = record { lender = limits.lender ∙ a.limits.lender; file = limits.file ∙ a.limits.file; used = omega (arith, a.limits.used, limits.used); most = limits.most ∙ a.limits.most; max = limits.max ∙ a.limits.max };
   same = same ∙ a.same;
   done = a.done ++ c ∷ [];
   split = a.split ∙ sym (append_assoc a.done (c ∷ []) rest);
+  few = omega (arith, a.few, few);
   run = λ told. runs_more a.done c root at at' old mid new (a.run told) (later told) (made told);
   still = λ told ok entries tree none.
       let so = a.still told ok entries tree none in
@@ -146,13 +144,13 @@ applies_stands tells old mid x y root at changes rest ok entries Q told a tree s
     so here.0 here.1
 
 -- the changes that are left at an index
-pub left_next : (tells : Bool) (old mid new : Shelf) (x y z : ℕ) (root at at' : Option ℕ) (changes : List Change) (n : ℕ) (d : Change) → n < length changes → Applies tells old mid x y root at changes (drop n changes) → (IsTrue tells → Later mid new) → SameLimits mid new → z ≡ y
+pub left_next : (tells : Bool) (old mid new : Shelf) (x y z : ℕ) (root at at' : Option ℕ) (changes : List Change) (n : ℕ) (d : Change) → n < length changes → Applies tells old mid x y root at changes (drop n changes) → (IsTrue tells → Later mid new) → SameLimits mid new → new.used ≤ mid.used + 21 → z ≡ y
     → (IsTrue tells → (ok : ℕ → ℕ → Bool) (entries : List Entry) → StaysWell ok → IsTrue (is_well ok mid.used (get_or changes n d)) → Tree ok mid at entries → Tree ok new at' (after_change entries (get_or changes n d)))
     → (IsTrue tells → MakesChange (get_or changes n d) at mid new at')
     → (IsTrue tells → (ok : ℕ → ℕ → Bool) (entries : List Entry) → Tree ok mid at entries → IsTrue (is_absent entries (get_or changes n d)) → (at' ≡ at) × (new ≡ mid)) → Applies tells old new x z root at' changes (drop (n + 1) changes)
-left_next tells old mid new x y z root at at' changes n d less a later limits same stands made gone =
+left_next tells old mid new x y z root at at' changes n d less a later limits few same stands made gone =
     applies_next tells old mid new x y z root at at' changes (drop (n + 1) changes) (get_or changes n d)
-    (subst (λ (l : List Change). Applies tells old mid x y root at changes l) (drop_more changes n d less) a) later limits same stands made gone
+    (subst (λ (l : List Change). Applies tells old mid x y root at changes l) (drop_more changes n d less) a) later limits few same stands made gone
 
 pub left_stands : (tells : Bool) (old mid new : Shelf) (x y : ℕ) (root at : Option ℕ) (changes rest : List Change) (ok : ℕ → ℕ → Bool) (entries : List Entry) (why : Refusal) → IsTrue tells → Applies tells old mid x y root at changes rest → Tree ok old root entries
     → ((ok : ℕ → ℕ → Bool) (entries : List Entry) → Tree ok mid at entries → (why ≡ Refusal.DiskFault) ⊎ (why ≡ is_full new)) → (why ≡ Refusal.DiskFault) ⊎ (why ≡ is_full new)

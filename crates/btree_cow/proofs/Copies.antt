@@ -1,18 +1,16 @@
 -- The nodes that an insert adds, on any blocks.
-use Rattle.std.proofs.Common.{◌≡◌, ℕ, zero, suc, ◌<◌, ◌≤◌, ◌-◌, ◌+◌, ◌*◌, ◌/◌, Bool, true, false, List, [], ◌∷◌, ◌++◌, length, refl, sym, ap, ◌∙◌, subst, arith}
-use Rattle.std.specs.Prelude.{Option, Some, None, IsTrue, Result, Ok, Err, IfOk, OnOk}
+use Rattle.std.proofs.Common.{◌≡◌, ℕ, zero, suc, ◌<◌, ◌≤◌, ◌-◌, ◌+◌, ◌/◌, Bool, true, false, List, [], ◌∷◌, ◌++◌, length, refl, sym, ◌∙◌, subst, arith}
+use Rattle.std.specs.Prelude.{Option, Some, None, IsTrue, Result, Ok, Err, IfOk}
 use Rattle.forest_model.specs.declared.refusal.Refusal.{Refusal}
 use Rattle.node_page.specs.Nodes.{Entry}
 use Rattle.btree_cow.specs.Shelf.{Shelf, Later}
-use Rattle.btree_cow.specs.Trees.{NodeAt, TreeAt, Fan}
+use Rattle.btree_cow.specs.Trees.{NodeAt}
 use Rattle.btree_cow.specs.Changes.{with_entry}
 use Rattle.btree_cow.specs.Growing.{AddsNode, IsChild, IsRead, first_chunk, with_child}
-use Rattle.btree_cow.specs.Copies.{IsMade, Makes, PutsAlong, Copied, IsRoot, Inserts, node_count}
+use Rattle.btree_cow.specs.Copies.{IsMade, Makes, PutsAlong, Copied, Inserts, node_count}
 use Rattle.btree_cow.specs.declared.grown.Grown.{Grown}
 use Rattle.btree_cow.specs.declared.grown.Grown.TheVariants.{One, Two}
 use Rattle.btree_cow.proofs.Growth.{node_later}
-use Rattle.btree_cow.proofs.Breaks.{no_leaf, one_at, fan_child}
-use Rattle.btree_cow.proofs.Additions.{chosen_among}
 
 pub on_ok : {A E : Type 0} (r : Result A E) (P Q : A → Type 0) → ((a : A) → P a → Q a) → IfOk r P → IfOk r Q
 on_ok (Ok a) P Q so h = so a h
@@ -140,46 +138,3 @@ inserts_two r root at chunk value left right slice old mid new grown is two same
       omega (arith, c.used, a.adds.one_more),
     ))
     added
-
--- ---- over a tree
-
-pub few_made : (grown : Grown) → node_count grown ≤ 2
-few_made (One at) = omega arith
-few_made (Two left right) = omega arith
-
-few_along : (old new : Shelf) (links at chunk value : ℕ) (grown : Grown) (nodes : ℕ) → PutsAlong old new links at chunk value grown nodes → nodes ≤ 2 * links + 2
-few_along old new zero at chunk value grown nodes p = omega (arith, p.3, few_made grown)
-few_along old new (suc links) at chunk value grown nodes p = omega (arith, p.9, few_made grown, few_along old new links p.3 chunk value p.5 p.6 p.7)
-
-way_height : (ok : ℕ → ℕ → Bool) (old new : Shelf) (links height least at low : ℕ) (high : Option ℕ) (entries : List Entry) (chunk value : ℕ) (grown : Grown) (nodes : ℕ) → PutsAlong old new links at chunk value grown nodes
-    → TreeAt ok old height least at low high entries → links ≡ height
-way_height ok old new zero zero least at low high entries chunk value grown nodes p tree = refl
-way_height ok old new zero (suc height) least at low high entries chunk value grown nodes p tree = absurd (no_leaf old at p.0 tree.0 p.1 tree.1)
-way_height ok old new (suc links) zero least at low high entries chunk value grown nodes p tree = absurd (no_leaf old at entries p.0 tree.0 p.1)
-way_height ok old new (suc links) (suc height) least at low high entries chunk value grown nodes p tree =
-    let same : tree.0 ≡ p.0 = (one_at old at false false tree.0 p.0 tree.1 p.1).1 in
-    let fan : Fan (TreeAt ok old height 126) at p.0 high entries = subst (λ (l : List Entry). Fan (TreeAt ok old height 126) at l high entries) same tree.5 in
-    let c : IsChild p.0 chunk p.2 p.3 = p.4 in
-    let among = chosen_among p.0 chunk p.2 p.3 c in
-    let child = fan_child (TreeAt ok old height 126) at high p.0 entries among.0 c.cut.chosen among.1 fan in
-    ap suc (way_height ok old new links height 126 p.3 child.1 child.2 child.3 chunk value p.5 p.6 p.7 (subst (λ (n : ℕ). TreeAt ok old height 126 n child.1 child.2 child.3) c.leads child.4))
-
-few_root : (s : Shelf) (grown : Grown) (at more : ℕ) → IsRoot s grown at more → more ≤ 1
-few_root s (One block) at more is = omega (arith, is.1)
-few_root s (Two left right) at more is = omega (arith, is.1)
-
-pub few_nodes : (ok : ℕ → ℕ → Bool) (root at height chunk value : ℕ) (old new : Shelf) (entries : List Entry) → TreeAt ok old height 1 root 0 None entries → Inserts (Some root) chunk value old new at → new.used ≤ old.used + (2 * height + 3)
-few_nodes ok root at height chunk value old new entries tree i =
-    let same = way_height ok old new i.0 height 1 root 0 None entries chunk value i.2 i.3 i.4 tree in
-    omega (arith, same, few_along old new i.0 root chunk value i.2 i.3 i.4, few_root new i.2 at i.5 i.6, i.7)
-
-pub few_ok : (r : Result ℕ Refusal) (root : Option ℕ) (chunk value : ℕ) (old new : Shelf) → IfOk r (Inserts root chunk value old new)
-    → (ok : ℕ → ℕ → Bool) (at height : ℕ) (entries : List Entry) → root ≡ Some at → TreeAt ok old height 1 at 0 None entries → OnOk r (new.used ≤ old.used + (2 * height + 3))
-few_ok (Ok top) root chunk value old new i ok at height entries is tree =
-    few_nodes ok at top height chunk value old new entries tree (subst (λ (o : Option ℕ). Inserts o chunk value old new top) is i)
-few_ok (Err why) root chunk value old new i ok at height entries is tree = tt
-
-pub few_of_insert : (root : Option ℕ) (chunk value at : ℕ) (old new : Shelf) → Inserts root chunk value old new at → new.used ≤ old.used + 21
-few_of_insert None chunk value at old new i = omega (arith, i.1)
-few_of_insert (Some root) chunk value at old new i =
-    omega (arith, i.1, few_along old new i.0 root chunk value i.2 i.3 i.4, few_root new i.2 at i.5 i.6, i.7)

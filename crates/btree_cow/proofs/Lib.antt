@@ -29,3 +29,4 @@ mod Stored
 mod Copies
 mod Takes
 mod Ways
+mod BlockCounts

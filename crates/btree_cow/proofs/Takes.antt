@@ -1,23 +1,21 @@
 -- The nodes that a removal adds, on any blocks.
-use Rattle.std.proofs.Common.{◌≡◌, inl, inr, ℕ, zero, suc, ◌<◌, ◌≤◌, ◌-◌, ◌+◌, ◌*◌, Bool, true, false, List, [], ◌∷◌, length, refl, sym, ap, ◌∙◌, subst, arith}
+use Rattle.std.proofs.Common.{◌≡◌, inl, inr, ℕ, zero, suc, ◌<◌, ◌≤◌, ◌-◌, ◌+◌, Bool, true, false, List, [], ◌∷◌, length, refl, sym, ap, ◌∙◌, subst, arith}
 use Rattle.std.specs.Prelude.{Option, Some, None, IsTrue, Result, Ok, Err, IfOk, OnOk, remove}
 use Rattle.forest_model.specs.declared.refusal.Refusal.{Refusal}
 use Rattle.node_page.specs.Nodes.{Entry, rises}
 use Rattle.btree_cow.specs.Shelf.{Shelf, Later}
-use Rattle.btree_cow.specs.Trees.{NodeAt, TreeAt, Fan}
+use Rattle.btree_cow.specs.Trees.{NodeAt}
 use Rattle.btree_cow.specs.Changes.{without_entry}
 use Rattle.btree_cow.specs.Growing.{AddsNode, IsChild, IsRead}
 use Rattle.btree_cow.specs.Shrinking.{IsNeighbour, first_place, led_to, side_by_side, with_joined}
 use Rattle.btree_cow.specs.Copies.{IsMade, Makes, node_count}
-use Rattle.btree_cow.specs.Takes.{HasNoPartner, IsAlone, IsPassed, IsRefilled, IsRootAfter, IsRootLeft, IsSettled, LeftAlone, Passed, Refilled, RootLeft, Settled, Taken, Takes, TakesAlong, TakesEntry, TakesOut, stored_count}
+use Rattle.btree_cow.specs.Takes.{HasNoPartner, IsAlone, IsPassed, IsRefilled, IsSettled, LeftAlone, Passed, Refilled, RootLeft, Settled, Taken, Takes, TakesAlong, TakesEntry, TakesOut, stored_count}
 use Rattle.btree_cow.specs.declared.overfull.Node.{Node}
 use Rattle.btree_cow.specs.declared.grown.Grown.{Grown}
 use Rattle.btree_cow.specs.declared.shrunk.Shrunk.{Shrunk}
 use Rattle.btree_cow.specs.declared.shrunk.Shrunk.TheVariants.{Absent, Stored, Short}
 use Rattle.btree_cow.proofs.Growth.{node_later}
-use Rattle.btree_cow.proofs.Breaks.{fan_child, no_leaf, one_at}
-use Rattle.btree_cow.proofs.Additions.{chosen_among}
-use Rattle.btree_cow.proofs.Copies.{added_node, few_made, made_later, told_node}
+use Rattle.btree_cow.proofs.Copies.{added_node, made_later, told_node}
 
 on_ok : {A E : Type 0} (r : Result A E) (P Q : A → Type 0) → ((a : A) → P a → Q a) → IfOk r P → IfOk r Q
 on_ok (Ok a) P Q so h = so a h
@@ -50,17 +48,26 @@ no_neighbour old new (Ok u) leaf content children read after place same none l =
 no_neighbour old new (Err e) leaf content children read after place same none l = tt
 
 pub no_partner : (tells : Bool) (old mid new : Shelf) (r : Result (Unit {0}) Refusal) (leaf level : Bool) (content other children read after : List Entry) (place block : ℕ) (in_front : Bool) → IsTrue tells → mid ≡ old → read ≡ children → IsNeighbour read place in_front block
-    → IsRead tells old block level other → (level ≡ leaf → rises (side_by_side in_front other content) ≡ false) → (IsTrue tells → Later mid new) → OnOk r (LeftAlone leaf content children place mid new after) → OnOk r (Refilled leaf content children place old new after)
-no_partner tells old mid new (Ok u) leaf level content other children read after place block in_front told kept same is node none later l =
+    → (in_front ≡ true → length read ≤ place + 1) → IsRead tells old block level other → (level ≡ leaf → rises (side_by_side in_front other content) ≡ false) → (IsTrue tells → Later mid new) → OnOk r (LeftAlone leaf content children place mid new after) → OnOk r (Refilled leaf content children place old new after)
+no_partner tells old mid new (Ok u) leaf level content other children read after place block in_front told kept same is last node none later l =
     record {
       nodes = l.nodes;
       refilled = inr (
-        inr (in_front, block, level, other, subst (λ (x : List Entry). IsNeighbour x place in_front block) same is, node_later old new block level other (subst (λ (s : Shelf). Later s new) kept (later told)) (node.node told), none),
+        inr (
+          in_front,
+          block,
+          level,
+          other,
+          subst (λ (x : List Entry). IsNeighbour x place in_front block) same is,
+          subst (λ (x : List Entry). in_front ≡ true → length x ≤ place + 1) same last,
+          node_later old new block level other (subst (λ (s : Shelf). Later s new) kept (later told)) (node.node told),
+          none,
+        ),
         l.alone,
       );
       used = subst (λ (s : Shelf). new.used ≡ s.used + l.nodes) kept l.used;
     }
-no_partner tells old mid new (Err e) leaf level content other children read after place block in_front told kept same is node none later l = tt
+no_partner tells old mid new (Err e) leaf level content other children read after place block in_front told kept same is last node none later l = tt
 
 pub joined_so : (tells : Bool) (old mid new : Shelf) (leaf level : Bool) (content other children read slice joined after : List Entry) (place block n : ℕ) (in_front : Bool) (grown : Grown) → IsTrue tells → mid ≡ old → Later mid new → n ≡ first_place in_front place → read ≡ children
     → IsNeighbour read place in_front block → (in_front ≡ true → length read ≤ place + 1) → IsRead tells old block level other → level ≡ leaf → slice ≡ joined → joined ≡ side_by_side in_front other content → Makes leaf slice mid new grown
@@ -104,7 +111,7 @@ alone_later old new leaf content children place after nodes later (inr there) = 
 
 partner_later : (old new : Shelf) (leaf : Bool) (content children : List Entry) (place : ℕ) → Later old new → HasNoPartner old leaf content children place → HasNoPartner new leaf content children place
 partner_later old new leaf content children place later (inl none) = inl none
-partner_later old new leaf content children place later (inr h) = inr (h.0, h.1, h.2, h.3, h.4, node_later old new h.1 h.2 h.3 later h.5, h.6)
+partner_later old new leaf content children place later (inr h) = inr (h.0, h.1, h.2, h.3, h.4, h.5, node_later old new h.1 h.2 h.3 later h.6, h.7)
 
 refilled_later : (old new : Shelf) (leaf : Bool) (content children : List Entry) (place : ℕ) (after : List Entry) (nodes : ℕ) → Later old new → IsRefilled old leaf content children place after nodes → IsRefilled new leaf content children place after nodes
 refilled_later old new leaf content children place after nodes later (inl j) = inl (
@@ -252,76 +259,3 @@ takes_short r root at chunk node old mid new shrunk is short later t left =
       omega (arith, t.used, l.used),
     ))
     left
-
--- ---- how many
-
-most_taken : ℕ → Shrunk → ℕ
-most_taken links Absent = 2 * links
-most_taken links (Stored block) = 2 * links + 1
-most_taken links (Short node) = 2 * links
-
-leaf_room : (shrunk : Shrunk) → stored_count shrunk ≤ most_taken 0 shrunk
-unfolding most_taken
-leaf_room Absent = omega arith
-leaf_room (Stored block) = omega arith
-leaf_room (Short node) = omega arith
-
-room : (links : ℕ) (shrunk : Shrunk) → 2 * links + 2 + stored_count shrunk ≤ most_taken (suc links) shrunk
-unfolding most_taken
-room links Absent = omega arith
-room links (Stored block) = omega arith
-room links (Short node) = omega arith
-
-few_refilled : (s : Shelf) (leaf : Bool) (content children : List Entry) (place : ℕ) (after : List Entry) (nodes : ℕ) → IsRefilled s leaf content children place after nodes → nodes ≤ 2
-few_refilled s leaf content children place after nodes (inl j) = omega (arith, j.count, few_made j.grown)
-few_refilled s leaf content children place after nodes (inr h) = elim h.1 [ inl gone ↦ omega (arith, gone.2) | inr there ↦ omega (arith, there.3) ]
-
-few_passed : (s : Shelf) (children : List Entry) (place : ℕ) (below result : Shrunk) (count more links : ℕ) → IsPassed s children place below result more → count ≤ most_taken links below → count + more ≤ most_taken (suc links) result
-unfolding most_taken
-few_passed s children place Absent result count more links p few = omega (arith, p.1, few, room links result)
-few_passed s children place (Stored block) result count more links p few = omega (arith, p.1, few, room links result)
-few_passed s children place (Short node) result count more links p few =
-    omega (arith, p.4, few, room links result, few_refilled s node.leaf node.entries.items children place p.0 p.1 p.2)
-
-few_takes : (old new : Shelf) (links at chunk : ℕ) (shrunk : Shrunk) (nodes : ℕ) → TakesAlong old new links at chunk shrunk nodes → nodes ≤ most_taken links shrunk
-few_takes old new zero at chunk shrunk nodes p = elim p.2 [ inl none ↦ omega (arith, none.2) | inr some ↦ omega (arith, some.2, leaf_room shrunk) ]
-few_takes old new (suc links) at chunk shrunk nodes p =
-    omega (arith, p.10, few_passed new p.0 p.2 p.5 shrunk p.6 p.8 links p.9 (few_takes old new links p.3 chunk p.5 p.6 p.7))
-
-few_left : (s : Shelf) (leaf : Bool) (content : List Entry) (root : Option ℕ) (nodes : ℕ) → IsRootLeft s leaf content root nodes → nodes ≤ 1
-few_left s leaf content root nodes (inl none) = omega (arith, none.2)
-few_left s leaf content root nodes (inr h) = elim h [ inl child ↦ omega (arith, child.4) | inr there ↦ omega (arith, there.3) ]
-
-few_after : (s : Shelf) (old links nodes more : ℕ) (shrunk : Shrunk) (root : Option ℕ) → IsRootAfter s old shrunk root more → nodes ≤ most_taken links shrunk → nodes + more ≤ 2 * links + 1
-unfolding most_taken
-few_after s old links nodes more Absent root is few = omega (arith, is.1, few)
-few_after s old links nodes more (Stored block) root is few = omega (arith, is.1, few)
-few_after s old links nodes more (Short node) root is few = omega (arith, few, few_left s node.leaf node.entries.items root more is)
-
-takes_height : (ok : ℕ → ℕ → Bool) (old new : Shelf) (links height least at low : ℕ) (high : Option ℕ) (entries : List Entry) (chunk : ℕ) (shrunk : Shrunk) (nodes : ℕ) → TakesAlong old new links at chunk shrunk nodes
-    → TreeAt ok old height least at low high entries → links ≡ height
-takes_height ok old new zero zero least at low high entries chunk shrunk nodes p tree = refl
-takes_height ok old new zero (suc height) least at low high entries chunk shrunk nodes p tree = absurd (no_leaf old at p.0 tree.0 p.1 tree.1)
-takes_height ok old new (suc links) zero least at low high entries chunk shrunk nodes p tree = absurd (no_leaf old at entries p.0 tree.0 p.1)
-takes_height ok old new (suc links) (suc height) least at low high entries chunk shrunk nodes p tree =
-    let same : tree.0 ≡ p.0 = (one_at old at false false tree.0 p.0 tree.1 p.1).1 in
-    let fan : Fan (TreeAt ok old height 126) at p.0 high entries = subst (λ (l : List Entry). Fan (TreeAt ok old height 126) at l high entries) same tree.5 in
-    let c : IsChild p.0 chunk p.2 p.3 = p.4 in
-    let among = chosen_among p.0 chunk p.2 p.3 c in
-    let child = fan_child (TreeAt ok old height 126) at high p.0 entries among.0 c.cut.chosen among.1 fan in
-    ap suc (takes_height ok old new links height 126 p.3 child.1 child.2 child.3 chunk p.5 p.6 p.7 (subst (λ (n : ℕ). TreeAt ok old height 126 n child.1 child.2 child.3) c.leads child.4))
-
-few_gone : (root at height chunk : ℕ) (old new : Shelf) (after : Option ℕ) (t : Takes (Some root) chunk old new after) → t.0 ≡ height → new.used ≤ old.used + (2 * height + 1)
-few_gone root at height chunk old new after t same =
-    omega (arith, same, few_after new root t.0 t.3 t.5 t.2 after t.6 (few_takes old new t.0 root chunk t.2 t.3 t.4), t.7)
-
-pub few_removed : (r : Result (Option ℕ) Refusal) (root : Option ℕ) (chunk : ℕ) (old new : Shelf) → IfOk r (Takes root chunk old new)
-    → (ok : ℕ → ℕ → Bool) (at height : ℕ) (entries : List Entry) → root ≡ Some at → TreeAt ok old height 1 at 0 None entries → OnOk r (new.used ≤ old.used + (2 * height + 1))
-few_removed (Ok top) root chunk old new t ok at height entries is tree =
-    let here : Takes (Some at) chunk old new top = subst (λ (o : Option ℕ). Takes o chunk old new top) is t in
-    few_gone at at height chunk old new top here (takes_height ok old new here.0 height 1 at 0 None entries chunk here.2 here.3 here.4 tree)
-few_removed (Err why) root chunk old new t ok at height entries is tree = tt
-
-pub few_of_removal : (root : Option ℕ) (chunk : ℕ) (old new : Shelf) (after : Option ℕ) → Takes root chunk old new after → new.used ≤ old.used + 19
-few_of_removal None chunk old new after t = subst (λ (s : Shelf). s.used ≤ old.used + 19) (sym t.1) (omega arith)
-few_of_removal (Some root) chunk old new after t = omega (arith, few_gone root root t.0 chunk old new after t refl, t.1)

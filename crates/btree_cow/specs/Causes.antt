@@ -4,7 +4,7 @@ use Rattle.block_host.specs.Disk.{risen}
 use Rattle.forest_model.specs.declared.refusal.Refusal.{Refusal}
 use Rattle.node_page.specs.Nodes.{Entry}
 use Rattle.node_page.specs.declared.page.Page.{Page}
-use Rattle.btree_cow.specs.Shelf.{Shelf, Later, BreaksAt, is_stored}
+use Rattle.btree_cow.specs.Shelf.{Shelf, BreaksAt, is_stored}
 use Rattle.btree_cow.specs.Trees.{NodeAt}
 
 -- one of the entries
@@ -59,12 +59,11 @@ PageFails tells s kind at before after why =
     ((why ≡ Refusal.DiskFault) × (risen before ≤ after))
     ⊎ ((why ≡ Refusal.Damaged s.file at) × (IsTrue tells → IsNoPage s kind at))
 
--- The reasons not to append: no room, with all as it was; or a count of faults that rose, with all blocks and records of
--- before as they were.
+-- The reasons not to append: no room, or a count of faults that rose. Either way the file is as it was: a block whose
+-- append failed isn't seen.
 abbrev pub AddFails : Shelf → Shelf → ℕ → ℕ → Refusal → Type 0
 AddFails old new before after why =
-    ((why ≡ is_full old) × (old.most ≤ old.used) × (new ≡ old))
-    ⊎ ((why ≡ Refusal.DiskFault) × (risen before ≤ after) × Later old new)
+    (((why ≡ is_full old) × (old.most ≤ old.used)) ⊎ ((why ≡ Refusal.DiskFault) × (risen before ≤ after))) × (new ≡ old)
 
 -- The reasons not to give a record: no memory, a count of faults that rose, or a block, at or behind the address, by which
 -- there is no record there.

@@ -33,7 +33,7 @@ abbrev pub last_block : Grown → ℕ
 last_block (One at) = at
 last_block (Two left right) = right.1
 
--- entries were stored, and nothing else
+-- entries stand in one node or two, and as many blocks were added
 pub record Makes (leaf : Bool) (content : List Entry) (old new : Shelf) (grown : Grown) : Type 0 where
   pub made : IsMade new leaf content grown
   pub used : new.used ≡ old.used + node_count grown
@@ -48,7 +48,8 @@ PutsAlong old new (suc links) at chunk value grown nodes =
     × (below : Grown) × (count : ℕ) × PutsAlong old new links child chunk value below count
     × IsMade new false (with_child children place chunk below) grown × (nodes ≡ count + node_count grown)
 
--- the nodes on the way from a block were copied with the value for the chunk, and no other block was added
+-- nodes stand for those on the way from a block, with the value for the chunk, and as many blocks were added: which ones,
+-- and that the older ones stay, is said apart
 pub record Copied (left at chunk value : ℕ) (old new : Shelf) (grown : Grown) : Type 0 where
   pub links : ℕ
   pub few : links ≤ left

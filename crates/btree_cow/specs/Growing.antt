@@ -108,6 +108,20 @@ pub record Appends (tells : Bool) (old new : Shelf) (before after : ℕ) : Type 
   pub limits : SameLimits old new
   pub counts : before ≤ after
 
+-- a tree of a height stands in a block, and this is told
+pub record HasHeight (tells : Bool) (s : Shelf) (at height : ℕ) : Type 0 where
+  pub told : IsTrue tells
+  pub ok : ℕ → ℕ → Bool
+  pub least : ℕ
+  pub low : ℕ
+  pub high : Option ℕ
+  pub entries : List Entry
+  pub tree : TreeAt ok s height least at low high entries
+
+-- so many links at most lead down from a block: as many as are left, or those of a tree there
+abbrev pub GoesDown : Bool → ℕ → Shelf → ℕ → ℕ → Type 0
+GoesDown tells left s at links = (links ≡ left) ⊎ HasHeight tells s at links
+
 -- the reasons not to add a node
 abbrev pub AppendFails : Shelf → ℕ → ℕ → Refusal → Type 0
 AppendFails new before after why =

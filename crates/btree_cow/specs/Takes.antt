@@ -1,5 +1,5 @@
 -- What a removal makes of the nodes on its way, and what changes make of a root, on any blocks.
-use Rattle.std.specs.Prelude.{◌≡◌, ◌⊎◌, ℕ, zero, suc, ◌+◌, ◌<◌, ◌≤◌, Bool, true, false, List, [], ◌∷◌, ◌++◌, length, remove, Option, Some, None, IsTrue}
+use Rattle.std.specs.Prelude.{◌≡◌, ◌⊎◌, ℕ, zero, suc, ◌+◌, ◌<◌, ◌≤◌, Bool, true, false, List, [], ◌∷◌, ◌++◌, length, remove, Option, Some, None, IsTrue, Result, Ok, Err}
 use Rattle.node_page.specs.Nodes.{Entry, rises}
 use Rattle.btree_cow.specs.Shelf.{Shelf, Later}
 use Rattle.btree_cow.specs.Trees.{NodeAt}
@@ -27,7 +27,12 @@ stored_count Absent = 0
 stored_count (Stored block) = 1
 stored_count (Short node) = 0
 
--- what is left of a node was stored if it is enough for one, and nothing else
+-- the most blocks that the last step of a removal adds, by its answer
+abbrev pub most_stored : Result Shrunk Refusal → ℕ
+most_stored (Ok shrunk) = stored_count shrunk
+most_stored (Err why) = 1
+
+-- what is left of a node stands in a block if it is enough for one, and as many blocks were added
 pub record Settled (leaf : Bool) (content : List Entry) (old new : Shelf) (shrunk : Shrunk) : Type 0 where
   pub settled : IsSettled new leaf content shrunk
   pub used : new.used ≡ old.used + stored_count shrunk
@@ -56,12 +61,12 @@ pub record LeftAlone (leaf : Bool) (content children : List Entry) (place : ℕ)
   pub alone : IsAlone new leaf content children place after nodes
   pub used : new.used ≡ old.used + nodes
 
--- there is no neighbour, or one of another level, or one whose chunks aren't on its side
+-- there is no neighbour, or the next one, else the one before, is of another level or has chunks that aren't on its side
 abbrev pub HasNoPartner : Shelf → Bool → List Entry → List Entry → ℕ → Type 0
 HasNoPartner s leaf content children place =
     (length children ≤ 1)
     ⊎ ((in_front : Bool) × (block : ℕ) × (level : Bool) × (other : List Entry) × IsNeighbour children place in_front block
-    × NodeAt s block level other × (level ≡ leaf → rises (side_by_side in_front other content) ≡ false))
+    × (in_front ≡ true → length children ≤ place + 1) × NodeAt s block level other × (level ≡ leaf → rises (side_by_side in_front other content) ≡ false))
 
 -- a short node is in its place among its siblings again
 abbrev pub IsRefilled : Shelf → Bool → List Entry → List Entry → ℕ → List Entry → ℕ → Type 0
@@ -109,7 +114,8 @@ TakesAlong old new (suc links) at chunk shrunk nodes =
     × (below : Shrunk) × (count : ℕ) × TakesAlong old new links child chunk below count
     × (more : ℕ) × IsPassed new children place below shrunk more × (nodes ≡ count + more)
 
--- the nodes on the way from a block were copied without the chunk, and no other block was added
+-- nodes stand for those on the way from a block, without the chunk, and as many blocks were added: which ones, and that the
+-- older ones stay, is said apart
 pub record Taken (left at chunk : ℕ) (old new : Shelf) (shrunk : Shrunk) : Type 0 where
   pub links : ℕ
   pub few : links ≤ left

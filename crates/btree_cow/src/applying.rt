@@ -1,4 +1,4 @@
-ghost use Rattle.std.specs.Prelude.{◌≡◌, ◌⊎◌, ◌≤◌, ℕ, Bool, List, IsTrue, IfOk, IfErr, OnOk, ◌≢◌, Err, ◌+◌, ◌*◌, length};
+ghost use Rattle.std.specs.Prelude.{◌≡◌, ◌⊎◌, ◌≤◌, ℕ, Bool, List, IsTrue, IfOk, IfErr, ◌≢◌, Err, ◌+◌, ◌*◌, length};
 ghost use Rattle.std.specs.List.{list_all};
 ghost use Rattle.forest_model.specs.declared.refusal.Refusal.TheVariants as Refusal;
 ghost use Rattle.node_page.specs.Nodes.{Entry};
@@ -21,6 +21,7 @@ fn apply_one<P: Appender>(
 ) -> Result<Option<u64>, Refusal>
     ensures applied { IsTrue P.tells → (ok : ℕ → ℕ → Bool) (entries : List Entry) → StaysWell ok → IsTrue (is_well ok (P.shelf pages.old).used change) → Tree ok (P.shelf pages.old) root entries → IfOk result (λ at. Tree ok (P.shelf pages.new) at (after_change entries change)) }
     ensures copies { IsTrue P.tells → IfOk result (MakesChange change root (P.shelf pages.old) (P.shelf pages.new)) }
+    ensures most { (P.shelf pages.new).used ≤ (P.shelf pages.old).used + 21 }
     ensures absent { IsTrue P.tells → (ok : ℕ → ℕ → Bool) (entries : List Entry) → Tree ok (P.shelf pages.old) root entries → IsTrue (is_absent entries change) → IfOk result (λ at. (at ≡ root) × (P.shelf pages.new ≡ P.shelf pages.old)) }
     ensures stands { IsTrue P.tells → (ok : ℕ → ℕ → Bool) (entries : List Entry) → Tree ok (P.shelf pages.old) root entries → IfErr result (λ why. (why ≡ Refusal.DiskFault) ⊎ (why ≡ is_full (P.shelf pages.new))) }
     ensures reason { IfErr result (ChangeFails P.tells (P.shelf pages.old) (P.shelf pages.new) root (P.faults pages.old) (P.faults pages.new)) }
@@ -36,7 +37,7 @@ fn apply_one<P: Appender>(
 }
 
 /// Makes changes in their order, and answers the new root: a value for a chunk, or none where the chunk is removed. New
-/// nodes are appended, and no old one changes.
+/// nodes are appended, at most 21 for each change, whatever is answered, and no old one changes.
 pub fn apply<P: Appender>(
     pages: &mut P,
     root: Option<u64>,
@@ -45,7 +46,7 @@ pub fn apply<P: Appender>(
     requires rise { IsTrue (changes_rise changes.now) }
     ensures applied { IsTrue P.tells → (ok : ℕ → ℕ → Bool) (entries : List Entry) → StaysWell ok → IsTrue (put_well ok (P.shelf pages.old).used changes.now) → Tree ok (P.shelf pages.old) root entries → IfOk result (λ at. Tree ok (P.shelf pages.new) at (after_changes entries changes.now)) }
     ensures copies { IsTrue P.tells → IfOk result (Runs changes.now root (P.shelf pages.old) (P.shelf pages.new)) }
-    ensures few { IsTrue P.tells → OnOk result ((P.shelf pages.new).used ≤ (P.shelf pages.old).used + 21 * length changes.now) }
+    ensures few { (P.shelf pages.new).used ≤ (P.shelf pages.old).used + 21 * length changes.now }
     ensures absent { IsTrue P.tells → (ok : ℕ → ℕ → Bool) (entries : List Entry) → Tree ok (P.shelf pages.old) root entries → IsTrue (list_all (is_absent entries) changes.now) → IfOk result (λ at. (at ≡ root) × (P.shelf pages.new ≡ P.shelf pages.old)) }
     ensures stands { IsTrue P.tells → (ok : ℕ → ℕ → Bool) (entries : List Entry) → Tree ok (P.shelf pages.old) root entries → IfErr result (λ why. (why ≡ Refusal.DiskFault) ⊎ (why ≡ is_full (P.shelf pages.new))) }
     ensures reason { IfErr result (ApplyFails P.tells (P.shelf pages.old) (P.shelf pages.new) root changes.now (P.faults pages.old) (P.faults pages.new)) }

@@ -1,4 +1,4 @@
-ghost use Rattle.std.specs.Prelude.{◌≡◌, ◌≢◌, ◌⊎◌, ◌+◌, ◌*◌, Err, None, ◌≤◌, ℕ, Bool, List, IsTrue, Some, IfOk, IfErr, OnOk};
+ghost use Rattle.std.specs.Prelude.{◌≡◌, ◌≢◌, ◌⊎◌, ◌+◌, ◌*◌, Err, None, ◌≤◌, ℕ, Bool, List, IsTrue, Some, IfOk, IfErr};
 ghost use Rattle.forest_model.specs.declared.refusal.Refusal.TheVariants as Refusal;
 ghost use Rattle.node_page.specs.Nodes.{Entry};
 ghost use Rattle.btree_cow.specs.Shelf.{Later};
@@ -6,7 +6,7 @@ ghost use Rattle.btree_cow.specs.Trees.{Tree, TreeAt};
 ghost use Rattle.btree_cow.specs.Causes.{is_full};
 ghost use Rattle.btree_cow.specs.Changes.{with_entry, StaysWell, SameLimits, ChangeFails};
 ghost use Rattle.btree_cow.specs.Copies.{Copied, Inserts, last_block};
-ghost use Rattle.btree_cow.specs.Growing.{Appends, IsApart, PutFails, Puts};
+ghost use Rattle.btree_cow.specs.Growing.{Appends, GoesDown, IsApart, PutFails, Puts};
 
 use crate::Appender;
 use crate::grown::Grown;
@@ -30,6 +30,8 @@ fn put<P: Appender>(
     ensures copied { IsTrue P.tells → IfOk result (Copied left at chunk value (P.shelf pages.old) (P.shelf pages.new)) }
     ensures last { IfOk result (λ grown. last_block grown + 1 ≡ (P.shelf pages.new).used) }
     ensures reason { IfErr result (PutFails P.tells left at (P.shelf pages.old) (P.shelf pages.new) (P.faults pages.old) (P.faults pages.new)) }
+    ensures few { (links : ℕ) → GoesDown P.tells left (P.shelf pages.old) at links → (P.shelf pages.new).used ≤ (P.shelf pages.old).used + (2 * links + 2) }
+    ensures unwritten { (file block : ℕ) → result ≡ Err (Refusal.Damaged file block) → P.shelf pages.new ≡ P.shelf pages.old }
     ensures appends { Appends P.tells (P.shelf pages.old) (P.shelf pages.new) (P.faults pages.old) (P.faults pages.new) }
     ensures untroubled { result ≢ Err Refusal.DiskFault → P.faults pages.new ≡ P.faults pages.old }
 {
@@ -51,6 +53,7 @@ fn put<P: Appender>(
 
 /// Puts a value for a chunk, in place of an older one, and answers the new root, the last block of the file. A copy of
 /// each node on the way is appended, two where the old one was full, and a new root where that was; no old one changes.
+/// Whatever it answers, at most 21 nodes were appended, and none where it answers a damaged block.
 pub fn insert<P: Appender>(
     pages: &mut P,
     root: Option<u64>,
@@ -59,7 +62,9 @@ pub fn insert<P: Appender>(
 ) -> Result<u64, Refusal>
     ensures inserted { IsTrue P.tells → (ok : ℕ → ℕ → Bool) (entries : List Entry) → StaysWell ok → IsTrue (ok (P.shelf pages.old).used value) → Tree ok (P.shelf pages.old) root entries → IfOk result (λ at. Tree ok (P.shelf pages.new) (Some at) (with_entry entries chunk value)) }
     ensures copies { IsTrue P.tells → IfOk result (Inserts root chunk value (P.shelf pages.old) (P.shelf pages.new)) }
-    ensures few { IsTrue P.tells → (ok : ℕ → ℕ → Bool) (at height : ℕ) (entries : List Entry) → root ≡ Some at → TreeAt ok (P.shelf pages.old) height 1 at 0 None entries → OnOk result ((P.shelf pages.new).used ≤ (P.shelf pages.old).used + (2 * height + 3)) }
+    ensures few { IsTrue P.tells → (ok : ℕ → ℕ → Bool) (at height : ℕ) (entries : List Entry) → root ≡ Some at → TreeAt ok (P.shelf pages.old) height 1 at 0 None entries → (P.shelf pages.new).used ≤ (P.shelf pages.old).used + (2 * height + 3) }
+    ensures most { (P.shelf pages.new).used ≤ (P.shelf pages.old).used + 21 }
+    ensures unwritten { (file block : ℕ) → result ≡ Err (Refusal.Damaged file block) → P.shelf pages.new ≡ P.shelf pages.old }
     ensures last { IfOk result (λ at. at + 1 ≡ (P.shelf pages.new).used) }
     ensures stands { IsTrue P.tells → (ok : ℕ → ℕ → Bool) (entries : List Entry) → Tree ok (P.shelf pages.old) root entries → IfErr result (λ why. (why ≡ Refusal.DiskFault) ⊎ (why ≡ is_full (P.shelf pages.new))) }
     ensures reason { IfErr result (ChangeFails P.tells (P.shelf pages.old) (P.shelf pages.new) root (P.faults pages.old) (P.faults pages.new)) }

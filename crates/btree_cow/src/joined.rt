@@ -120,6 +120,7 @@ fn store_joined<P: Appender>(
     ensures stores { IsTrue P.tells → IfOk result (Stores leaf entries.now (P.shelf pages.old) (P.shelf pages.new)) }
     ensures makes { IsTrue P.tells → IfOk result (Makes leaf entries.now (P.shelf pages.old) (P.shelf pages.new)) }
     ensures reason { IfErr result (AppendFails (P.shelf pages.new) (P.faults pages.old) (P.faults pages.new)) }
+    ensures few { (P.shelf pages.new).used ≤ (P.shelf pages.old).used + 2 }
     ensures appends { Appends P.tells (P.shelf pages.old) (P.shelf pages.new) (P.faults pages.old) (P.faults pages.new) }
     ensures untroubled { result ≢ Err Refusal.DiskFault → P.faults pages.new ≡ P.faults pages.old }
 {
@@ -177,6 +178,7 @@ fn store_alone<P: Appender>(
     ensures rise { OnOk result (IsTrue (rises children.new.items)) }
     ensures most { OnOk result (length children.new.items ≤ length children.old.items) }
     ensures reason { IfErr result (AppendFails (P.shelf pages.new) (P.faults pages.old) (P.faults pages.new)) }
+    ensures few { (P.shelf pages.new).used ≤ (P.shelf pages.old).used + 1 }
     ensures appends { Appends P.tells (P.shelf pages.old) (P.shelf pages.new) (P.faults pages.old) (P.faults pages.new) }
     ensures untroubled { result ≢ Err Refusal.DiskFault → P.faults pages.new ≡ P.faults pages.old }
 {
@@ -208,6 +210,7 @@ pub(crate) fn refill<P: Appender>(
     ensures rise { OnOk result (IsTrue (rises children.new.items)) }
     ensures most { OnOk result (length children.new.items ≤ length children.old.items) }
     ensures reason { IfErr result (RefillFails P.tells children.old.items at (P.shelf pages.old) (P.shelf pages.new) (P.faults pages.old) (P.faults pages.new)) }
+    ensures few { (P.shelf pages.new).used ≤ (P.shelf pages.old).used + 2 }
     ensures appends { Appends P.tells (P.shelf pages.old) (P.shelf pages.new) (P.faults pages.old) (P.faults pages.new) }
     ensures untroubled { result ≢ Err Refusal.DiskFault → P.faults pages.new ≡ P.faults pages.old }
 {

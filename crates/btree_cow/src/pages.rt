@@ -51,7 +51,7 @@ pub trait Docs: Pages {
 /// Appends nodes and stems to the file.
 pub trait Appender: Docs {
     /// Appends a page as a block of kind 2 or 3, and answers its number. It is refused for want of room exactly where
-    /// there is none, and then nothing changes.
+    /// there is none. A refusal, of the disk too, leaves the file as it was.
     fn add(&mut self, kind: u8, page: &Page) -> Result<u64, Refusal>
         requires kind { (kind ≡ 2) ⊎ (kind ≡ 3) }
         requires paged { (payload : List ℕ) × IsPage payload page.now }

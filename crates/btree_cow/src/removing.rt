@@ -1,12 +1,12 @@
-ghost use Rattle.std.specs.Prelude.{◌≡◌, ◌⊎◌, ◌<◌, ◌≤◌, ℕ, Bool, true, false, List, length, Option, Some, None, [], ◌∷◌, IsTrue, IfOk, IfErr, IfSome, IfNone, OnOk, ◌≢◌, Err, ◌+◌, ◌*◌};
+ghost use Rattle.std.specs.Prelude.{◌≡◌, ◌⊎◌, ◌<◌, ◌≤◌, ℕ, Bool, true, false, List, length, Option, Some, None, [], ◌∷◌, IsTrue, IfOk, IfErr, IfSome, IfNone, ◌≢◌, Err, ◌+◌, ◌*◌};
 ghost use Rattle.forest_model.specs.declared.refusal.Refusal.TheVariants as Refusal;
 ghost use Rattle.node_page.specs.Nodes.{Entry, rises};
 ghost use Rattle.btree_cow.specs.Shelf.{Later, Shelf};
 ghost use Rattle.btree_cow.specs.Trees.{NodeAt, Tree, TreeAt, value_of};
 ghost use Rattle.btree_cow.specs.Causes.{is_full};
 ghost use Rattle.btree_cow.specs.Changes.{without_entry, StaysWell, SameLimits, ChangeFails};
-ghost use Rattle.btree_cow.specs.Growing.{Appends, AppendFails, PutFails};
-ghost use Rattle.btree_cow.specs.Takes.{Passed, RootLeft, Settled, Taken, Takes, TakesOut};
+ghost use Rattle.btree_cow.specs.Growing.{Appends, AppendFails, GoesDown, PutFails};
+ghost use Rattle.btree_cow.specs.Takes.{Passed, RootLeft, Settled, Taken, Takes, TakesOut, most_stored, stored_count};
 ghost use Rattle.btree_cow.specs.Shrinking.{IsChanged, IsSame, IsShort, Passes, RefillFails, Removes, Roots, Settles};
 
 use crate::Appender;
@@ -42,6 +42,7 @@ fn settle<P: Appender>(pages: &mut P, node: Node) -> Result<Shrunk, Refusal>
     ensures short { IfOk result IsShort }
     ensures changed { IfOk result IsChanged }
     ensures reason { IfErr result (AppendFails (P.shelf pages.new) (P.faults pages.old) (P.faults pages.new)) }
+    ensures few { (P.shelf pages.new).used ≤ (P.shelf pages.old).used + most_stored result }
     ensures appends { Appends P.tells (P.shelf pages.old) (P.shelf pages.new) (P.faults pages.old) (P.faults pages.new) }
     ensures untroubled { result ≢ Err Refusal.DiskFault → P.faults pages.new ≡ P.faults pages.old }
 {
@@ -65,6 +66,7 @@ fn remove_from_leaf<P: Appender>(
     ensures short { IfOk result IsShort }
     ensures same { IfOk result (IsSame (P.shelf pages.old) (P.shelf pages.new)) }
     ensures reason { IfErr result (AppendFails (P.shelf pages.new) (P.faults pages.old) (P.faults pages.new)) }
+    ensures few { (P.shelf pages.new).used ≤ (P.shelf pages.old).used + most_stored result }
     ensures appends { Appends P.tells (P.shelf pages.old) (P.shelf pages.new) (P.faults pages.old) (P.faults pages.new) }
     ensures untroubled { result ≢ Err Refusal.DiskFault → P.faults pages.new ≡ P.faults pages.old }
 {
@@ -92,6 +94,7 @@ fn pass_up<P: Appender>(
     ensures same { IfOk result (λ s. (first : Shelf) → IsSame first (P.shelf pages.old) shrunk → IsSame first (P.shelf pages.new) s) }
     ensures short { IfOk result IsShort }
     ensures reason { IfErr result (RefillFails P.tells node.entries.items at (P.shelf pages.old) (P.shelf pages.new) (P.faults pages.old) (P.faults pages.new)) }
+    ensures few { (P.shelf pages.new).used + stored_count shrunk ≤ (P.shelf pages.old).used + (2 + most_stored result) }
     ensures appends { Appends P.tells (P.shelf pages.old) (P.shelf pages.new) (P.faults pages.old) (P.faults pages.new) }
     ensures untroubled { result ≢ Err Refusal.DiskFault → P.faults pages.new ≡ P.faults pages.old }
 {
@@ -115,6 +118,7 @@ fn remove_from<P: Appender>(pages: &mut P, at: u64, left: u8, chunk: u64) -> Res
     ensures short { IfOk result IsShort }
     ensures same { IfOk result (IsSame (P.shelf pages.old) (P.shelf pages.new)) }
     ensures reason { IfErr result (PutFails P.tells left at (P.shelf pages.old) (P.shelf pages.new) (P.faults pages.old) (P.faults pages.new)) }
+    ensures few { (links : ℕ) → GoesDown P.tells left (P.shelf pages.old) at links → (P.shelf pages.new).used ≤ (P.shelf pages.old).used + (2 * links + most_stored result) }
     ensures appends { Appends P.tells (P.shelf pages.old) (P.shelf pages.new) (P.faults pages.old) (P.faults pages.new) }
     ensures untroubled { result ≢ Err Refusal.DiskFault → P.faults pages.new ≡ P.faults pages.old }
 {
@@ -150,6 +154,7 @@ fn root_of<P: Appender>(pages: &mut P, node: &Node) -> Result<Option<u64>, Refus
     ensures roots { IsTrue P.tells → IfOk result (Roots node.now.leaf node.now.entries.items (P.shelf pages.old) (P.shelf pages.new)) }
     ensures left { IsTrue P.tells → IfOk result (RootLeft node.now.leaf node.now.entries.items (P.shelf pages.old) (P.shelf pages.new)) }
     ensures reason { IfErr result (AppendFails (P.shelf pages.new) (P.faults pages.old) (P.faults pages.new)) }
+    ensures few { (P.shelf pages.new).used ≤ (P.shelf pages.old).used + 1 }
     ensures appends { Appends P.tells (P.shelf pages.old) (P.shelf pages.new) (P.faults pages.old) (P.faults pages.new) }
     ensures untroubled { result ≢ Err Refusal.DiskFault → P.faults pages.new ≡ P.faults pages.old }
 {
@@ -165,7 +170,7 @@ fn root_of<P: Appender>(pages: &mut P, node: &Node) -> Result<Option<u64>, Refus
 
 /// Removes a chunk, and answers the new root: none where nothing is left. An absent chunk leaves the root and appends
 /// nothing. A copy of each node on the way is appended, joined with its neighbour where it got short, and no old one
-/// changes.
+/// changes. Whatever it answers, at most 21 nodes were appended.
 pub fn remove<P: Appender>(
     pages: &mut P,
     root: Option<u64>,
@@ -173,7 +178,8 @@ pub fn remove<P: Appender>(
 ) -> Result<Option<u64>, Refusal>
     ensures removed { IsTrue P.tells → (ok : ℕ → ℕ → Bool) (entries : List Entry) → StaysWell ok → Tree ok (P.shelf pages.old) root entries → IfOk result (λ at. Tree ok (P.shelf pages.new) at (without_entry entries chunk)) }
     ensures copies { IsTrue P.tells → IfOk result (Takes root chunk (P.shelf pages.old) (P.shelf pages.new)) }
-    ensures few { IsTrue P.tells → (ok : ℕ → ℕ → Bool) (at height : ℕ) (entries : List Entry) → root ≡ Some at → TreeAt ok (P.shelf pages.old) height 1 at 0 None entries → OnOk result ((P.shelf pages.new).used ≤ (P.shelf pages.old).used + (2 * height + 1)) }
+    ensures few { IsTrue P.tells → (ok : ℕ → ℕ → Bool) (at height : ℕ) (entries : List Entry) → root ≡ Some at → TreeAt ok (P.shelf pages.old) height 1 at 0 None entries → (P.shelf pages.new).used ≤ (P.shelf pages.old).used + (2 * height + 1) }
+    ensures most { (P.shelf pages.new).used ≤ (P.shelf pages.old).used + 21 }
     ensures absent { IsTrue P.tells → (ok : ℕ → ℕ → Bool) (entries : List Entry) → Tree ok (P.shelf pages.old) root entries → value_of entries chunk ≡ None → IfOk result (λ at. (at ≡ root) × (P.shelf pages.new ≡ P.shelf pages.old)) }
     ensures stands { IsTrue P.tells → (ok : ℕ → ℕ → Bool) (entries : List Entry) → Tree ok (P.shelf pages.old) root entries → IfErr result (λ why. (why ≡ Refusal.DiskFault) ⊎ (why ≡ is_full (P.shelf pages.new))) }
     ensures reason { IfErr result (ChangeFails P.tells (P.shelf pages.old) (P.shelf pages.new) root (P.faults pages.old) (P.faults pages.new)) }

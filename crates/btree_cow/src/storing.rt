@@ -1,4 +1,4 @@
-ghost use Rattle.std.specs.Prelude.{◌≡◌, ◌≢◌, ◌+◌, Err, ◌<◌, ◌≤◌, ℕ, Bool, List, length, IsTrue, IfOk, IfErr, OnOk};
+ghost use Rattle.std.specs.Prelude.{◌≡◌, ◌≢◌, ◌+◌, Err, ◌<◌, ◌≤◌, ℕ, Bool, List, length, IsTrue, IfOk, IfErr, OnOk, OnErr};
 ghost use Rattle.forest_model.specs.declared.refusal.Refusal.TheVariants as Refusal;
 ghost use Rattle.node_page.specs.Nodes.{Entry, IsNode, rises};
 ghost use Rattle.btree_cow.specs.Trees.{NodeAt};
@@ -65,6 +65,8 @@ pub(crate) fn add_node<P: Appender>(
     ensures added { IsTrue P.tells → IfOk result (AddsNode leaf entries.now (P.shelf pages.old) (P.shelf pages.new)) }
     ensures last { IfOk result (λ at. at + 1 ≡ (P.shelf pages.new).used) }
     ensures counted { OnOk result ((P.shelf pages.new).used ≡ (P.shelf pages.old).used + 1) }
+    ensures refused { OnErr result (P.shelf pages.new ≡ P.shelf pages.old) }
+    ensures few { (P.shelf pages.new).used ≤ (P.shelf pages.old).used + 1 }
     ensures reason { IfErr result (AppendFails (P.shelf pages.new) (P.faults pages.old) (P.faults pages.new)) }
     ensures appends { Appends P.tells (P.shelf pages.old) (P.shelf pages.new) (P.faults pages.old) (P.faults pages.new) }
     ensures untroubled { result ≢ Err Refusal.DiskFault → P.faults pages.new ≡ P.faults pages.old }
@@ -93,6 +95,7 @@ pub(crate) fn store<P: Appender>(
     ensures last { IfOk result (λ grown. last_block grown + 1 ≡ (P.shelf pages.new).used) }
     ensures apart { IfOk result IsApart }
     ensures reason { IfErr result (AppendFails (P.shelf pages.new) (P.faults pages.old) (P.faults pages.new)) }
+    ensures few { (P.shelf pages.new).used ≤ (P.shelf pages.old).used + 2 }
     ensures appends { Appends P.tells (P.shelf pages.old) (P.shelf pages.new) (P.faults pages.old) (P.faults pages.new) }
     ensures untroubled { result ≢ Err Refusal.DiskFault → P.faults pages.new ≡ P.faults pages.old }
 {

@@ -1,8 +1,9 @@
-use Rattle.std.proofs.Common.{refl}
+use Rattle.std.proofs.Common.{◌+◌, ◌*◌, ◌∙◌, refl, arith}
 use Rattle.std.proofs.lemmas.Result.{err_from_is_err_and}
 use Rattle.btree_cow.proofs.Finds.{ok_never}
 use Rattle.btree_cow.proofs.Additions.{appends_after, read_fails}
 use Rattle.btree_cow.proofs.Insertions.{leaf_rises, leaf_put, inner_rises, inner_some, inner_put, nowhere_fails, below_fails}
+use Rattle.btree_cow.proofs.BlockCounts.{after_read, inner_few, never_damaged, only_read}
 use Rattle.btree_cow.proofs.Copies.{copied_leaf, copied_inner}
 use Rattle.btree_cow.proofs.inserting.+put.Goals as goal
 
@@ -64,3 +65,38 @@ returns-clause-copied g t c = λ told.
     c.in-Some.place c.in-Some.child c.in_ok-node.node.leaf c.in_ok-node.node.entries.items c.as_slice-2.result.now c.replace_child.new.children.items c.as_slice-3.result.now c.in_ok-grown.grown told
     c.in_ok-node.ensures.kept c.in-Some.ensures.lower.0 refl c.if-node.false c.in_ok-node.ensures.node c.as_slice-2.ensures.value c.in-Some.ensures.found (c.in_ok-grown.ensures.copied told) (c.store-2.ensures.appends.later told)
     c.as_slice-3.ensures.value c.replace_child.ensures (c.store-2.ensures.makes told)
+
+pub returns-in_err-node-clause-few : goal.returns-in_err-node-clause-few
+returns-in_err-node-clause-few g t c = λ links down. only_read (g.P.Pages.shelf c.args.pages.now) (g.P.Pages.shelf c.read_node.new.pages) (2 * links + 2) c.in_err-node.ensures.kept
+
+pub returns-then-node-clause-few : goal.returns-then-node-clause-few
+returns-then-node-clause-few g t c = λ links down.
+    after_read (g.P.Pages.shelf c.args.pages.now) (g.P.Pages.shelf c.read_node.new.pages) (g.P.Pages.shelf c.store.new.pages) 2 (2 * links + 2) c.in_ok-node.ensures.kept (omega arith) c.store.ensures.few
+
+pub returns-in_default-clause-few : goal.returns-in_default-clause-few
+returns-in_default-clause-few g t c = λ links down. only_read (g.P.Pages.shelf c.args.pages.now) (g.P.Pages.shelf c.read_node.new.pages) (2 * links + 2) c.in_ok-node.ensures.kept
+
+pub returns-in_err-grown-clause-few : goal.returns-in_err-grown-clause-few
+returns-in_err-grown-clause-few g t c = λ links down.
+    let below =
+    inner_few g.P.Pages.tells c.args.left _ c.args.at c.args.chunk c.in-Some.place c.in-Some.child links 2 (g.P.Pages.shelf c.args.pages.now) (g.P.Pages.shelf c.read_node.new.pages) (g.P.Pages.shelf c.put.new.pages) c.in_ok-node.node.leaf c.in_ok-node.node.entries.items
+    c.as_slice-2.result.now c.in_ok-node.ensures.kept c.in-Some.ensures.lower.0 refl c.if-node.false c.in_ok-node.ensures.node c.as_slice-2.ensures.value c.in-Some.ensures.found c.in_err-grown.ensures.few down in
+    omega (arith, below)
+
+pub returns-clause-few : goal.returns-clause-few
+returns-clause-few g t c = λ links down.
+    let below =
+    inner_few g.P.Pages.tells c.args.left _ c.args.at c.args.chunk c.in-Some.place c.in-Some.child links 2 (g.P.Pages.shelf c.args.pages.now) (g.P.Pages.shelf c.read_node.new.pages) (g.P.Pages.shelf c.put.new.pages) c.in_ok-node.node.leaf c.in_ok-node.node.entries.items
+    c.as_slice-2.result.now c.in_ok-node.ensures.kept c.in-Some.ensures.lower.0 refl c.if-node.false c.in_ok-node.ensures.node c.as_slice-2.ensures.value c.in-Some.ensures.found c.in_ok-grown.ensures.few down in
+    omega (arith, below, c.store-2.ensures.few)
+
+pub returns-then-node-clause-unwritten : goal.returns-then-node-clause-unwritten
+returns-then-node-clause-unwritten g t c = λ file block is. absurd (never_damaged c.store.result (g.P.Pages.shelf c.store.new.pages) _ _ file block c.store.ensures.reason is)
+
+pub returns-in_err-grown-clause-unwritten : goal.returns-in_err-grown-clause-unwritten
+returns-in_err-grown-clause-unwritten g t c =
+    let p = err_from_is_err_and c.from_residual-in_err-grown.result c.from_residual-in_err-grown.ensures.1 in
+    rw (p.1, p.2) (λ file block is. c.in_err-grown.ensures.unwritten file block is ∙ c.in_ok-node.ensures.kept)
+
+pub returns-clause-unwritten : goal.returns-clause-unwritten
+returns-clause-unwritten g t c = λ file block is. absurd (never_damaged c.store-2.result (g.P.Pages.shelf c.store-2.new.pages) _ _ file block c.store-2.ensures.reason is)

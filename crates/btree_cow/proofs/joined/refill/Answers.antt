@@ -1,6 +1,7 @@
-use Rattle.std.proofs.Common.{ap, sym, ◌∙◌, subst, ◌+◌, ◌<◌, ◌≤◌, List, length}
+use Rattle.std.proofs.Common.{ap, sym, ◌∙◌, subst, ◌+◌, ◌<◌, ◌≤◌, List, length, arith}
 use Rattle.std.proofs.lemmas.Result.{err_from_is_err_and}
 use Rattle.node_page.specs.Nodes.{Entry, rises}
+use Rattle.btree_cow.proofs.BlockCounts.{after_read, only_read}
 use Rattle.btree_cow.proofs.Pairs.{pair_rises, pair_short}
 use Rattle.btree_cow.proofs.Gaps.{alone_gap, filled_gap, high_fails, neighbour_fails}
 use Rattle.btree_cow.proofs.Takes.{joined_so, no_neighbour, no_partner}
@@ -50,7 +51,7 @@ pub returns-in_default-join_neighbours-clause-refilled : goal.returns-in_default
 returns-in_default-join_neighbours-clause-refilled g c = λ told.
     no_partner g.P.Pages.tells (g.P.Pages.shelf c.args.pages.now) (g.P.Pages.shelf c.read_node.new.pages) (g.P.Pages.shelf c.store_alone-in_default-join_neighbours.new.pages) c.store_alone-in_default-join_neighbours.result c.args.short.now.leaf c.in_ok-other.other.leaf
     c.args.short.now.entries.items c.in_ok-other.other.entries.items c.args.children.now.items c.as_slice.result.now c.store_alone-in_default-join_neighbours.new.children.items c.args.place c.in-Some.neighbour.block c.in-Some.neighbour.in_front
-    told c.in_ok-other.ensures.kept c.as_slice.ensures.value c.in-Some.ensures.some c.in_ok-other.ensures.node c.in_default-join_neighbours.ensures.none c.store_alone-in_default-join_neighbours.ensures.appends.later
+    told c.in_ok-other.ensures.kept c.as_slice.ensures.value c.in-Some.ensures.some c.in-Some.ensures.last c.in_ok-other.ensures.node c.in_default-join_neighbours.ensures.none c.store_alone-in_default-join_neighbours.ensures.appends.later
     (c.store_alone-in_default-join_neighbours.ensures.alone told)
 
 pub returns-clause-refilled : goal.returns-clause-refilled
@@ -59,3 +60,16 @@ returns-clause-refilled g c = λ told.
     c.args.children.now.items c.as_slice.result.now c.as_slice-2.result.now c.in-Some-join_neighbours.joined.items c.replace_pair.new.children.items c.args.place c.in-Some.neighbour.block c.in-Some.neighbour.first c.in-Some.neighbour.in_front c.in_ok-grown.grown
     told c.in_ok-other.ensures.kept (c.in_ok-grown.ensures.appends.later told) c.in-Some.ensures.first.0 c.as_slice.ensures.value c.in-Some.ensures.some c.in-Some.ensures.last c.in_ok-other.ensures.node c.in-Some-join_neighbours.ensures.alike
     c.as_slice-2.ensures.value c.in-Some-join_neighbours.ensures.some.0 (c.in_ok-grown.ensures.makes told) c.replace_pair.ensures
+
+pub returns-in_err-other-clause-few : goal.returns-in_err-other-clause-few
+returns-in_err-other-clause-few g c = only_read (g.P.Pages.shelf c.args.pages.now) (g.P.Pages.shelf c.read_node.new.pages) 2 c.in_err-other.ensures.kept
+
+pub returns-in_default-join_neighbours-clause-few : goal.returns-in_default-join_neighbours-clause-few
+returns-in_default-join_neighbours-clause-few g c =
+    after_read (g.P.Pages.shelf c.args.pages.now) (g.P.Pages.shelf c.read_node.new.pages) (g.P.Pages.shelf c.store_alone-in_default-join_neighbours.new.pages) 1 2 c.in_ok-other.ensures.kept (omega arith) c.store_alone-in_default-join_neighbours.ensures.few
+
+pub returns-in_err-grown-clause-few : goal.returns-in_err-grown-clause-few
+returns-in_err-grown-clause-few g c = after_read (g.P.Pages.shelf c.args.pages.now) (g.P.Pages.shelf c.read_node.new.pages) (g.P.Pages.shelf c.store_joined.new.pages) 2 2 c.in_ok-other.ensures.kept (omega arith) c.in_err-grown.ensures.few
+
+pub returns-clause-few : goal.returns-clause-few
+returns-clause-few g c = after_read (g.P.Pages.shelf c.args.pages.now) (g.P.Pages.shelf c.read_node.new.pages) (g.P.Pages.shelf c.store_joined.new.pages) 2 2 c.in_ok-other.ensures.kept (omega arith) c.in_ok-grown.ensures.few

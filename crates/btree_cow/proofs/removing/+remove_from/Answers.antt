@@ -1,5 +1,7 @@
-use Rattle.std.proofs.Common.{refl}
+use Rattle.std.proofs.Common.{◌+◌, ◌*◌, refl, arith}
 use Rattle.std.proofs.lemmas.Result.{err_from_is_err_and}
+use Rattle.btree_cow.specs.Takes.{most_stored, stored_count}
+use Rattle.btree_cow.proofs.BlockCounts.{after_read, inner_few, only_read}
 use Rattle.btree_cow.proofs.Finds.{ok_never}
 use Rattle.btree_cow.proofs.Additions.{appends_after, read_fails}
 use Rattle.btree_cow.proofs.Insertions.{nowhere_fails, below_fails}
@@ -52,3 +54,29 @@ returns-clause-taken g t c = λ told.
     taken_inner g.P.Pages.tells (g.P.Pages.shelf c.args.pages.now) (g.P.Pages.shelf c.read_node.new.pages) (g.P.Pages.shelf c.remove_from.new.pages) (g.P.Pages.shelf c.pass_up.new.pages) c.pass_up.result c.args.left _ c.args.at c.args.chunk c.in-Some.place c.in-Some.child
     c.in_ok-node.node.leaf c.in_ok-node.node.entries.items c.as_slice.result.now c.in_ok-shrunk.shrunk told c.in_ok-node.ensures.kept c.in-Some.ensures.lower.0 refl c.if-node.false c.in_ok-node.ensures.node c.as_slice.ensures.value
     c.in-Some.ensures.found (c.in_ok-shrunk.ensures.taken told) (c.pass_up.ensures.appends.later told) (c.pass_up.ensures.passed told c.if-node.false)
+
+pub returns-in_err-node-clause-few : goal.returns-in_err-node-clause-few
+returns-in_err-node-clause-few g t c = λ links down. only_read (g.P.Pages.shelf c.args.pages.now) (g.P.Pages.shelf c.read_node.new.pages) (2 * links + most_stored c.from_residual.result) c.in_err-node.ensures.kept
+
+pub returns-then-node-clause-few : goal.returns-then-node-clause-few
+returns-then-node-clause-few g t c = λ links down.
+    after_read (g.P.Pages.shelf c.args.pages.now) (g.P.Pages.shelf c.read_node.new.pages) (g.P.Pages.shelf c.remove_from_leaf.new.pages) (most_stored c.remove_from_leaf.result) (2 * links + most_stored c.remove_from_leaf.result)
+    c.in_ok-node.ensures.kept (omega arith) c.remove_from_leaf.ensures.few
+
+pub returns-in_default-clause-few : goal.returns-in_default-clause-few
+returns-in_default-clause-few g t c = λ links down. only_read (g.P.Pages.shelf c.args.pages.now) (g.P.Pages.shelf c.read_node.new.pages) (2 * links + 1) c.in_ok-node.ensures.kept
+
+pub returns-in_err-shrunk-clause-few : goal.returns-in_err-shrunk-clause-few
+returns-in_err-shrunk-clause-few g t c = λ links down.
+    let p = err_from_is_err_and c.from_residual-in_err-shrunk.result c.from_residual-in_err-shrunk.ensures.1 in
+    let below =
+    inner_few g.P.Pages.tells c.args.left _ c.args.at c.args.chunk c.in-Some.place c.in-Some.child links 1 (g.P.Pages.shelf c.args.pages.now) (g.P.Pages.shelf c.read_node.new.pages) (g.P.Pages.shelf c.remove_from.new.pages) c.in_ok-node.node.leaf c.in_ok-node.node.entries.items
+    c.as_slice.result.now c.in_ok-node.ensures.kept c.in-Some.ensures.lower.0 refl c.if-node.false c.in_ok-node.ensures.node c.as_slice.ensures.value c.in-Some.ensures.found c.in_err-shrunk.ensures.few down in
+    rw (p.1) (omega (arith, below))
+
+pub returns-clause-few : goal.returns-clause-few
+returns-clause-few g t c = λ links down.
+    let below =
+    inner_few g.P.Pages.tells c.args.left _ c.args.at c.args.chunk c.in-Some.place c.in-Some.child links (stored_count c.in_ok-shrunk.shrunk) (g.P.Pages.shelf c.args.pages.now) (g.P.Pages.shelf c.read_node.new.pages) (g.P.Pages.shelf c.remove_from.new.pages) c.in_ok-node.node.leaf c.in_ok-node.node.entries.items
+    c.as_slice.result.now c.in_ok-node.ensures.kept c.in-Some.ensures.lower.0 refl c.if-node.false c.in_ok-node.ensures.node c.as_slice.ensures.value c.in-Some.ensures.found c.in_ok-shrunk.ensures.few down in
+    omega (arith, below, c.pass_up.ensures.few)

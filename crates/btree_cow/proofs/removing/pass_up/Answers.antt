@@ -1,6 +1,8 @@
-use Rattle.std.proofs.Common.{ap, ◌∙◌}
+use Rattle.std.proofs.Common.{◌≡◌, ap, ◌∙◌, arith}
 use Rattle.node_page.specs.Nodes.{rises}
+use Rattle.btree_cow.specs.Takes.{stored_count}
 use Rattle.btree_cow.proofs.Additions.{appends_on}
+use Rattle.btree_cow.proofs.BlockCounts.{one_stored}
 use Rattle.btree_cow.proofs.Pairs.{led_rises}
 use Rattle.btree_cow.proofs.Removals.{absent_passed, stored_passed, short_passed}
 use Rattle.btree_cow.proofs.Takes.{passed_absent, passed_short, passed_stored}
@@ -37,3 +39,19 @@ pub returns-in_ok-refill-in-Short-clause-passed : goal.returns-in_ok-refill-in-S
 returns-in_ok-refill-in-Short-clause-passed g c = λ told is.
     passed_short (g.P.Pages.shelf c.args.pages.now) (g.P.Pages.shelf c.refill.new.pages) (g.P.Pages.shelf c.settle-in-Short.new.pages) c.settle-in-Short.result c.args.node.leaf c.args.node.entries.items c.refill.new.children.items c.args.place
     c.args.shrunk c.in-Short.short is c.in-Short.is (c.settle-in-Short.ensures.appends.later told) (c.in_ok-refill-in-Short.ensures.refilled told) (c.settle-in-Short.ensures.settled told)
+
+pub returns-in-Absent-clause-few : goal.returns-in-Absent-clause-few
+returns-in-Absent-clause-few g c = omega (arith, one_stored c.args.shrunk)
+
+pub returns-in-Stored-clause-few : goal.returns-in-Stored-clause-few
+returns-in-Stored-clause-few g c = omega (arith, one_stored c.args.shrunk, c.settle.ensures.few)
+
+pub returns-in_err-refill-in-Short-clause-few : goal.returns-in_err-refill-in-Short-clause-few
+returns-in_err-refill-in-Short-clause-few g c =
+    let none : stored_count c.args.shrunk ≡ 0 = ap stored_count c.in-Short.is in
+    omega (arith, none, c.in_err-refill-in-Short.ensures.few)
+
+pub returns-in_ok-refill-in-Short-clause-few : goal.returns-in_ok-refill-in-Short-clause-few
+returns-in_ok-refill-in-Short-clause-few g c =
+    let none : stored_count c.args.shrunk ≡ 0 = ap stored_count c.in-Short.is in
+    omega (arith, none, c.in_ok-refill-in-Short.ensures.few, c.settle-in-Short.ensures.few)

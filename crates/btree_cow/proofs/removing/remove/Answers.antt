@@ -1,9 +1,11 @@
-use Rattle.std.specs.Prelude.{Ok, None, Some}
+use Rattle.std.proofs.Common.{◌≡◌, inl, refl, ap, arith}
 use Rattle.std.proofs.lemmas.Result.{err_from_is_err_and}
 use Rattle.btree_cow.proofs.Growth.{later_on}
 use Rattle.btree_cow.proofs.Insertions.{root_fails, root_stands}
 use Rattle.btree_cow.proofs.Removals.{short_present, stored_present}
-use Rattle.btree_cow.proofs.Takes.{few_removed, takes_absent, takes_none, takes_short, takes_stored}
+use Rattle.btree_cow.specs.Takes.{stored_count}
+use Rattle.btree_cow.proofs.BlockCounts.{one_stored, root_down}
+use Rattle.btree_cow.proofs.Takes.{takes_absent, takes_short, takes_stored}
 use Rattle.btree_cow.proofs.removing.remove.Goals as goal
 
 pub returns-in_err-remove_from-clause-stands : goal.returns-in_err-remove_from-clause-stands
@@ -42,17 +44,31 @@ returns-in-Short-clause-copies g c = λ told.
     takes_short c.root_of.result c.args.root c.in-Some.at c.args.chunk c.in-Short.node (g.P.Pages.shelf c.args.pages.now) (g.P.Pages.shelf c.remove_from.new.pages) (g.P.Pages.shelf c.root_of.new.pages) c.in_ok-remove_from.field-0
     c.in-Some.is c.in-Short.is (c.root_of.ensures.appends.later told) (c.in_ok-remove_from.ensures.taken told) (c.root_of.ensures.left told)
 
-pub returns-in_default-clause-few : goal.returns-in_default-clause-few
-returns-in_default-clause-few g c = λ told. few_removed (Ok None) c.args.root c.args.chunk (g.P.Pages.shelf c.args.pages.now) (g.P.Pages.shelf c.args.pages.now) (takes_none c.args.root c.args.chunk (g.P.Pages.shelf c.args.pages.now) c.in_default.is)
+pub returns-in_err-remove_from-clause-few : goal.returns-in_err-remove_from-clause-few
+returns-in_err-remove_from-clause-few g c = λ told ok at height entries is tree.
+    omega (arith, c.in_err-remove_from.ensures.few height (root_down g.P.Pages.tells 9 at c.in-Some.at height c.args.root (g.P.Pages.shelf c.args.pages.now) ok entries told c.in-Some.is is tree))
 
 pub returns-in-Absent-clause-few : goal.returns-in-Absent-clause-few
-returns-in-Absent-clause-few g c = λ told.
-    few_removed (Ok (Some c.in-Some.at)) c.args.root c.args.chunk (g.P.Pages.shelf c.args.pages.now) (g.P.Pages.shelf c.remove_from.new.pages) (returns-in-Absent-clause-copies g c told)
+returns-in-Absent-clause-few g c = λ told ok at height entries is tree.
+    omega (arith, one_stored c.in_ok-remove_from.field-0, c.in_ok-remove_from.ensures.few height (root_down g.P.Pages.tells 9 at c.in-Some.at height c.args.root (g.P.Pages.shelf c.args.pages.now) ok entries told c.in-Some.is is tree))
 
 pub returns-in-Stored-clause-few : goal.returns-in-Stored-clause-few
-returns-in-Stored-clause-few g c = λ told.
-    few_removed (Ok (Some c.in-Stored.block)) c.args.root c.args.chunk (g.P.Pages.shelf c.args.pages.now) (g.P.Pages.shelf c.remove_from.new.pages) (returns-in-Stored-clause-copies g c told)
+returns-in-Stored-clause-few g c = λ told ok at height entries is tree.
+    omega (arith, one_stored c.in_ok-remove_from.field-0, c.in_ok-remove_from.ensures.few height (root_down g.P.Pages.tells 9 at c.in-Some.at height c.args.root (g.P.Pages.shelf c.args.pages.now) ok entries told c.in-Some.is is tree))
 
 pub returns-in-Short-clause-few : goal.returns-in-Short-clause-few
-returns-in-Short-clause-few g c = λ told.
-    few_removed c.root_of.result c.args.root c.args.chunk (g.P.Pages.shelf c.args.pages.now) (g.P.Pages.shelf c.root_of.new.pages) (returns-in-Short-clause-copies g c told)
+returns-in-Short-clause-few g c = λ told ok at height entries is tree.
+    let none : stored_count c.in_ok-remove_from.field-0 ≡ 0 = ap stored_count c.in-Short.is in
+    omega (arith, none, c.root_of.ensures.few, c.in_ok-remove_from.ensures.few height (root_down g.P.Pages.tells 9 at c.in-Some.at height c.args.root (g.P.Pages.shelf c.args.pages.now) ok entries told c.in-Some.is is tree))
+
+pub returns-in_err-remove_from-clause-most : goal.returns-in_err-remove_from-clause-most
+returns-in_err-remove_from-clause-most g c = omega (arith, c.in_err-remove_from.ensures.few 9 (inl refl))
+
+pub returns-in-Absent-clause-most : goal.returns-in-Absent-clause-most
+returns-in-Absent-clause-most g c = omega (arith, one_stored c.in_ok-remove_from.field-0, c.in_ok-remove_from.ensures.few 9 (inl refl))
+
+pub returns-in-Stored-clause-most : goal.returns-in-Stored-clause-most
+returns-in-Stored-clause-most g c = omega (arith, one_stored c.in_ok-remove_from.field-0, c.in_ok-remove_from.ensures.few 9 (inl refl))
+
+pub returns-in-Short-clause-most : goal.returns-in-Short-clause-most
+returns-in-Short-clause-most g c = omega (arith, one_stored c.in_ok-remove_from.field-0, c.root_of.ensures.few, c.in_ok-remove_from.ensures.few 9 (inl refl))
