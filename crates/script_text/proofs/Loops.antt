@@ -1,10 +1,12 @@
 -- Reading one thing after the other, as a loop does.
-use Rattle.std.proofs.Common.{◌≡◌, ℕ, zero, suc, ◌+◌, ◌-◌, ◌<◌, ◌≤◌, List, [], ◌∷◌, ◌++◌, length, true, false, Option, Some, None, refl, sym, ap, ◌∙◌, append_assoc, arith}
+use Rattle.std.proofs.Common.{◌≡◌, ℕ, zero, suc, ◌+◌, ◌-◌, ◌<◌, ◌≤◌, List, [], ◌∷◌, ◌++◌, length, Bool, true, false, Option, Some, None, IsTrue, ◌⊎◌, inl, inr, refl, sym, ap, ◌∙◌, append_assoc, arith}
+use Rattle.std.specs.Prelude.{◌||◌}
+use Rattle.std.specs.Option.{is_some}
 use Rattle.std.proofs.lemmas.List.{append-nil}
 use Rattle.forest_model.specs.declared.call.Item.{Item}
 use Rattle.script_text.specs.declared.unread.Unread.{Unread}
 use Rattle.script_text.specs.declared.unread.Unread.TheVariants as unread
-use Rattle.script_text.specs.Reading.{◌>>=◌, Fails, none_left, byte_at, bytes_at, item_at, items_at}
+use Rattle.script_text.specs.Reading.{◌>>=◌, Fails, none_left, byte_at, bytes_at, item_at, items_at, item_takes_memory, batch_takes_memory}
 
 -- what was read before, and what is still read
 abbrev pub with_bytes : List ℕ → Option (List ℕ) → Option (List ℕ)
@@ -85,3 +87,22 @@ items_are_full front most i ws total le so_far =
     let k : most - i ≡ 0 = omega arith in
     let one : with_items front (items_at (most - i) ws) ≡ Some (front, ws) = rw k (ap (λ (xs : List Item). Some (xs, ws)) (append-nil front)) in
     sym so_far ∙ one
+
+-- the words that are left are all of them, or the first item was read
+abbrev pub IsBegun : List (List ℕ) → List (List ℕ) → Type 0
+IsBegun first ws = (ws ≡ first) ⊎ IsTrue (is_some (item_at first))
+
+pub begun_on : (first ws : List (List ℕ)) (x : Item × List (List ℕ)) → IsBegun first ws → item_at ws ≡ Some x → IsTrue (is_some (item_at first))
+begun_on first ws x begun e = elim begun [ inl same ↦ ap (λ r. is_some (item_at r)) (sym same) ∙ ap is_some e | inr read ↦ read ]
+
+pub batch_read : (first : List (List ℕ)) → IsTrue (is_some (item_at first)) → IsTrue (batch_takes_memory first)
+unfolding batch_takes_memory
+batch_read first read = rw read refl
+
+pub batch_item : (first ws : List (List ℕ)) → IsBegun first ws → IsTrue (item_takes_memory ws) → IsTrue (batch_takes_memory first)
+unfolding batch_takes_memory
+batch_item first ws begun takes = elim begun [ inl same ↦ by (is_some (item_at first)) (ap item_takes_memory (sym same) ∙ takes) | inr read ↦ rw read refl ]
+  where
+    by : (b : Bool) → item_takes_memory first ≡ true → (b || item_takes_memory first) ≡ true
+    by true e = refl
+    by false e = e

@@ -1,5 +1,5 @@
 -- What the reader of a line makes of its words: a value and the words that are left, or nothing.
-use Rattle.std.specs.Prelude.{◌≡◌, ◌==◌, ℕ, zero, suc, ◌+◌, ◌-◌, ◌*◌, ◌^◌, Bool, true, false, ◌&&◌, ◌||◌, nat_le, nat_lt, nat_eq, List, [], ◌∷◌, length, find, Option, Some, None, is_some, Result, Ok, Err, if◌then◌else◌, codes}
+use Rattle.std.specs.Prelude.{◌≡◌, ◌==◌, ℕ, zero, suc, ◌+◌, ◌-◌, ◌*◌, ◌^◌, Bool, true, false, ◌&&◌, ◌||◌, not, nat_le, nat_lt, nat_eq, List, [], ◌∷◌, length, find, Option, Some, None, is_some, Result, Ok, Err, if◌then◌else◌, codes}
 use Rattle.std.specs.Option.{option_map_or}
 use Rattle.std.specs.List.{slice_split}
 use Rattle.std.specs.Fmt.{decimal}
@@ -341,20 +341,47 @@ line_at server ws = do
 
 -- ---- memory
 
-abbrev pub is_get : Keyword → Bool
-is_get keyword.Get = true
-is_get _ = false
+-- Memory is taken for the bytes of a text word, unless it is empty or the word of no bytes.
+unfoldable pub has_bytes : List ℕ → Bool
+has_bytes word = not (length word == 0) && not (pointwise nat_eq word (codes "-"))
 
--- Memory is taken for text words and for the items of a batch. Behind a keyword, in words that are left, they stand at once, but for two verbs.
+unfoldable pub text_takes_memory : List (List ℕ) → Bool
+text_takes_memory ws = option_map_or (λ word. has_bytes word.0) (word_at ws) false
+
+-- the same of text words that are read one after another
+unfoldable pub two_texts_take_memory : List (List ℕ) → Bool
+two_texts_take_memory ws = text_takes_memory ws || option_map_or (λ t. text_takes_memory t.1) (text_at ws) false
+
+unfoldable pub three_texts_take_memory : List (List ℕ) → Bool
+three_texts_take_memory ws = text_takes_memory ws || option_map_or (λ t. two_texts_take_memory t.1) (text_at ws) false
+
+-- of an item's words, and of a batch's, which takes memory for each item that was read
+unfoldable pub item_takes_memory_behind : Keyword → List (List ℕ) → Bool
+item_takes_memory_behind keyword.Put ws = three_texts_take_memory ws
+item_takes_memory_behind keyword.Del ws = text_takes_memory ws
+item_takes_memory_behind _ ws = false
+
+unfoldable pub item_takes_memory : List (List ℕ) → Bool
+item_takes_memory ws = option_map_or (λ k. item_takes_memory_behind k.0 k.1) (keyword_at ws) false
+
+unfoldable pub batch_takes_memory : List (List ℕ) → Bool
+batch_takes_memory ws = is_some (item_at ws) || item_takes_memory ws
+
+-- of a keyword behind `snap`
+unfoldable pub snap_takes_memory_behind : Keyword → List (List ℕ) → Bool
+snap_takes_memory_behind keyword.Get ws = text_takes_memory ws
+snap_takes_memory_behind _ ws = false
+
+-- of a verb
 unfoldable pub takes_memory_behind : Keyword → List (List ℕ) → Bool
-takes_memory_behind keyword.Use ws = true
-takes_memory_behind keyword.Remove ws = true
-takes_memory_behind keyword.Set ws = true
-takes_memory_behind keyword.Del ws = true
-takes_memory_behind keyword.Batch ws = true
-takes_memory_behind keyword.Get ws = true
-takes_memory_behind keyword.Snap ws = option_map_or (λ k. is_get k.0) (keyword_at ws) false
-takes_memory_behind keyword.Scan ws = is_some (direction_at ws)
+takes_memory_behind keyword.Use ws = text_takes_memory ws
+takes_memory_behind keyword.Remove ws = text_takes_memory ws
+takes_memory_behind keyword.Set ws = three_texts_take_memory ws
+takes_memory_behind keyword.Del ws = text_takes_memory ws
+takes_memory_behind keyword.Batch ws = batch_takes_memory ws
+takes_memory_behind keyword.Get ws = text_takes_memory ws
+takes_memory_behind keyword.Snap ws = option_map_or (λ k. snap_takes_memory_behind k.0 k.1) (keyword_at ws) false
+takes_memory_behind keyword.Scan ws = option_map_or (λ up. text_takes_memory up.1) (direction_at ws) false
 takes_memory_behind _ ws = false
 
 unfoldable pub verb_takes_memory : List (List ℕ) → Bool

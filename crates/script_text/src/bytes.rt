@@ -1,6 +1,6 @@
-ghost use Rattle.std.specs.Prelude.{◌≡◌, ◌<◌, ◌==◌, length, Option, IfSome, option_map, nat_eq, codes};
+ghost use Rattle.std.specs.Prelude.{◌≡◌, ◌<◌, ◌==◌, length, Option, IsTrue, IfSome, option_map, nat_eq, codes};
 ghost use Rattle.script_text.specs.Words.{is_plain};
-ghost use Rattle.script_text.specs.Reading.{GivesWhole, byte_at, bytes_at, bytes_of, escape_at, hex_of};
+ghost use Rattle.script_text.specs.Reading.{GivesWhole, byte_at, bytes_at, bytes_of, escape_at, has_bytes, hex_of};
 
 use crate::unread::Unread;
 use forest_model::Bytes;
@@ -78,9 +78,10 @@ fn spelled_bytes(alloc: Global, word: &[u8]) -> Result<Bytes, Unread>
 }
 
 /// The bytes that a text word stands for.
-#[tactic(auto, unfolding(crate::specs::Reading::bytes_of))]
+#[tactic(auto, unfolding(crate::specs::Reading::bytes_of, crate::specs::Reading::has_bytes))]
 pub(crate) fn bytes_of(alloc: Global, word: &[u8]) -> Result<Bytes, Unread>
-    ensures { GivesWhole result (bytes_of word.now) }
+    ensures gives { GivesWhole result (bytes_of word.now) }
+    ensures memory { result ≡ Err Unread.NoMemory → IsTrue (has_bytes word.now) }
 {
     if word.is_empty() {
         return Err(Unread::NotALine);

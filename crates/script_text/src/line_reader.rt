@@ -1,5 +1,5 @@
 ghost use Rattle.std.specs.Prelude.{◌≡◌, IsTrue, OnErr};
-ghost use Rattle.script_text.specs.Reading.{Gives, batch_at, compact_at, compact_of, copy_at, del_at, direction_at, direction_of, item_at, item_of, items_at, lane_at, line_at, meta_at, put_at, read_only_at, read_only_of, scan_at, seqs_at, set_at, snap_at, snap_of, takes_memory, takes_memory_behind, use_at, verb_at, verb_of, verb_takes_memory};
+ghost use Rattle.script_text.specs.Reading.{Gives, batch_at, batch_takes_memory, compact_at, compact_of, copy_at, del_at, direction_at, direction_of, item_at, item_of, item_takes_memory, items_at, lane_at, line_at, meta_at, put_at, read_only_at, read_only_of, scan_at, seqs_at, set_at, snap_at, snap_of, takes_memory, takes_memory_behind, text_takes_memory, three_texts_take_memory, use_at, verb_at, verb_of, verb_takes_memory};
 
 use crate::keyword::Keyword;
 use crate::reader::Reader;
@@ -78,7 +78,8 @@ impl<'a> Reader<'a> {
 
     #[tactic(auto, unfolding(crate::specs::Reading::use_at))]
     fn use_store(&mut self, alloc: Global) -> Result<Verb, Unread>
-        ensures { Gives result self.new (use_at self.old) }
+        ensures gives { Gives result self.new (use_at self.old) }
+        ensures memory { result ≡ Err Unread.NoMemory → IsTrue (text_takes_memory self.old) }
     {
         let name = self.text(alloc)?;
         let read_only = self.read_only()?;
@@ -99,9 +100,10 @@ impl<'a> Reader<'a> {
         }
     }
 
-    #[tactic(auto, unfolding(crate::specs::Reading::set_at))]
+    #[tactic(auto, unfolding(crate::specs::Reading::set_at, crate::specs::Reading::two_texts_take_memory, crate::specs::Reading::three_texts_take_memory))]
     fn set(&mut self, alloc: Global) -> Result<Verb, Unread>
-        ensures { Gives result self.new (set_at self.old) }
+        ensures gives { Gives result self.new (set_at self.old) }
+        ensures memory { result ≡ Err Unread.NoMemory → IsTrue (three_texts_take_memory self.old) }
     {
         let key = self.text(alloc)?;
         let body = self.text(alloc)?;
@@ -112,7 +114,8 @@ impl<'a> Reader<'a> {
     /// The meta at the end of a line, which isn't written where it is empty.
     #[tactic(auto, unfolding(crate::specs::Reading::meta_at))]
     fn meta(&mut self, alloc: Global) -> Result<Bytes, Unread>
-        ensures { Gives result self.new (meta_at self.old) }
+        ensures gives { Gives result self.new (meta_at self.old) }
+        ensures memory { result ≡ Err Unread.NoMemory → IsTrue (text_takes_memory self.old) }
     {
         if self.is_done() {
             return Ok(Bytes::new(alloc));
@@ -126,7 +129,8 @@ impl<'a> Reader<'a> {
 
     #[tactic(auto, unfolding(crate::specs::Reading::batch_at))]
     fn batch(&mut self, alloc: Global) -> Result<Verb, Unread>
-        ensures { Gives result self.new (batch_at self.old) }
+        ensures gives { Gives result self.new (batch_at self.old) }
+        ensures memory { result ≡ Err Unread.NoMemory → IsTrue (batch_takes_memory self.old) }
     {
         let items = self.items(alloc)?;
         if items.is_empty() {
@@ -137,7 +141,8 @@ impl<'a> Reader<'a> {
 
     /// Items to the end, but at most as many as a batch may have.
     fn items(&mut self, alloc: Global) -> Result<Items, Unread>
-        ensures { Gives result self.new (items_at 1024 self.old) }
+        ensures gives { Gives result self.new (items_at 1024 self.old) }
+        ensures memory { result ≡ Err Unread.NoMemory → IsTrue (batch_takes_memory self.old) }
     {
         let mut items = Vec::new(alloc);
         for _ in 0..MOST_ITEMS {
@@ -150,9 +155,10 @@ impl<'a> Reader<'a> {
         Ok(Items::from_vec(items))
     }
 
-    #[tactic(auto, unfolding(crate::specs::Reading::item_at, crate::specs::Reading::item_of, crate::specs::Reading::del_at))]
+    #[tactic(auto, unfolding(crate::specs::Reading::item_at, crate::specs::Reading::item_of, crate::specs::Reading::del_at, crate::specs::Reading::item_takes_memory, crate::specs::Reading::item_takes_memory_behind))]
     fn item(&mut self, alloc: Global) -> Result<Item, Unread>
-        ensures { Gives result self.new (item_at self.old) }
+        ensures gives { Gives result self.new (item_at self.old) }
+        ensures memory { result ≡ Err Unread.NoMemory → IsTrue (item_takes_memory self.old) }
     {
         match self.keyword()? {
             Keyword::Put => self.put(alloc),
@@ -163,9 +169,10 @@ impl<'a> Reader<'a> {
         }
     }
 
-    #[tactic(auto, unfolding(crate::specs::Reading::put_at))]
+    #[tactic(auto, unfolding(crate::specs::Reading::put_at, crate::specs::Reading::two_texts_take_memory, crate::specs::Reading::three_texts_take_memory))]
     fn put(&mut self, alloc: Global) -> Result<Item, Unread>
-        ensures { Gives result self.new (put_at self.old) }
+        ensures gives { Gives result self.new (put_at self.old) }
+        ensures memory { result ≡ Err Unread.NoMemory → IsTrue (three_texts_take_memory self.old) }
     {
         let key = self.text(alloc)?;
         let body = self.text(alloc)?;
@@ -173,7 +180,7 @@ impl<'a> Reader<'a> {
         Ok(Item::Put { key, meta, body })
     }
 
-    #[tactic(auto, unfolding(crate::specs::Reading::snap_at, crate::specs::Reading::snap_of, crate::specs::Reading::takes_memory_behind))]
+    #[tactic(auto, unfolding(crate::specs::Reading::snap_at, crate::specs::Reading::snap_of, crate::specs::Reading::takes_memory_behind, crate::specs::Reading::snap_takes_memory_behind))]
     fn snap(&mut self, alloc: Global) -> Result<Verb, Unread>
         ensures gives { Gives result self.new (snap_at self.old) }
         ensures memory { result ≡ Err Unread.NoMemory → IsTrue (takes_memory_behind Keyword.Snap self.old) }

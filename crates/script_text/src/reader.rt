@@ -1,6 +1,6 @@
-ghost use Rattle.std.specs.Prelude.{◌≡◌, ◌∷◌, [], OnErr};
+ghost use Rattle.std.specs.Prelude.{◌≡◌, ◌∷◌, [], IsTrue, OnErr};
 ghost use Rattle.std.specs.Option.{option_map_or};
-ghost use Rattle.script_text.specs.Reading.{Gives, GivesBy, count_at, end_at, keyword_at, none_left, number_at, text_at, word_at, words_in};
+ghost use Rattle.script_text.specs.Reading.{Gives, GivesBy, count_at, end_at, keyword_at, none_left, number_at, text_at, text_takes_memory, word_at, words_in};
 
 use crate::bytes::bytes_of;
 use crate::keyword::Keyword;
@@ -86,9 +86,10 @@ impl<'a> Reader<'a> {
     }
 
     /// The bytes of a text word.
-    #[tactic(auto, unfolding(crate::specs::Reading::text_at))]
+    #[tactic(auto, unfolding(crate::specs::Reading::text_at, crate::specs::Reading::text_takes_memory))]
     pub(crate) fn text(&mut self, alloc: Global) -> Result<Bytes, Unread>
-        ensures { Gives result self.new (text_at self.old) }
+        ensures gives { Gives result self.new (text_at self.old) }
+        ensures memory { result ≡ Err Unread.NoMemory → IsTrue (text_takes_memory self.old) }
     {
         bytes_of(alloc, self.word()?)
     }
