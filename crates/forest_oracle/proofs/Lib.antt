@@ -1,3 +1,4 @@
 pub mod Commits
 pub mod Mapped
 pub mod Places
+pub mod AtTurn

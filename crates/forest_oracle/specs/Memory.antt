@@ -1,11 +1,10 @@
 -- Where the plain store takes memory, so that a step of it may fail for want of it.
-use Rattle.std.specs.Prelude.{Bool, true, false, not, List, Option, is_none, take}
+use Rattle.std.specs.Prelude.{Bool, true, false, not, is_none}
 use Rattle.forest_model.specs.Stores.{store_named}
 use Rattle.forest_model.specs.State.{nothing_new}
-use Rattle.forest_model.specs.Step.{causes, is_at}
+use Rattle.forest_model.specs.Step.{is_at}
 use Rattle.forest_model.specs.declared.call.Call.{Call}
 use Rattle.forest_model.specs.declared.call.Call.TheVariants.{Set, Delete, Batch, Get, BySeq, Markers, StoreOpen, Commit, Rollback}
-use Rattle.forest_model.specs.declared.refusal.Refusal.{Refusal}
 use Rattle.forest_model.specs.declared.state.State.{State}
 
 -- a call that takes memory where nothing refuses it: it copies keys, documents, stores or numbers
@@ -20,8 +19,3 @@ takes_memory s (StoreOpen name read_only) = is_none (store_named s.stores name)
 takes_memory s (Commit at) = not (nothing_new s)
 takes_memory s (Rollback at number) = not (is_at s number)
 takes_memory s call = false
-
--- the causes that are looked for before any memory is taken: all, but for an absent key of a batch, which its items show on a copy
-abbrev pub causes_before_growth : State → Call → List (Option Refusal)
-causes_before_growth s (Batch at items) = take 5 (causes s (Batch at items))
-causes_before_growth s call = causes s call

@@ -1,7 +1,7 @@
 ghost use Rattle.std.specs.Prelude.{◌≡◌, None, IsTrue, IfOk, OnErr};
 ghost use Rattle.forest_model.specs.State as states;
-ghost use Rattle.forest_model.specs.Step.{first_cause, step_with_room};
-ghost use Rattle.forest_oracle.specs.Memory.{takes_memory, causes_before_growth};
+ghost use Rattle.forest_model.specs.Step.{causes, first_cause, step_with_room};
+ghost use Rattle.forest_oracle.specs.Memory.{takes_memory};
 
 use forest_model::{
     Bytes, Call, Commit, Documents, Limits, Refusal, Reply, Sequence, State, Store, StoreList,
@@ -14,6 +14,7 @@ mod limits;
 mod reads;
 mod stores;
 mod tables;
+mod turns;
 mod writes;
 
 pub use limits::is_wrong_key;
@@ -84,13 +85,13 @@ impl Oracle {
     }
 
     /// One step where no file is full. A refused call is answered so; an `Err` is want of memory, leaves the state,
-    /// and comes only of a call that takes memory and that nothing refuses before it does.
+    /// and comes only of a call that takes memory and that nothing refuses.
     pub fn step(&mut self, call: &Call) -> Result<Reply, Refusal>
         ensures step { IfOk result (λ reply. (reply, self.new.state) ≡ step_with_room self.old.state call.now) }
         ensures err { OnErr result (self.new.state ≡ self.old.state) }
         ensures memory { OnErr result (result ≡ Err Refusal.NoMemory) }
         ensures memory_needed { OnErr result (IsTrue (takes_memory self.old.state call.now)) }
-        ensures answered { OnErr result (first_cause (causes_before_growth self.old.state call.now) ≡ None) }
+        ensures answered { OnErr result (first_cause (causes self.old.state call.now) ≡ None) }
     {
         let alloc = self.alloc;
         let state = &mut self.state;

@@ -1,13 +1,12 @@
-ghost use Rattle.std.specs.Prelude.{◌≡◌, ◌+◌, ◌*◌, ◌%◌, ◌^◌, ◌<◌, IfOk, IfSome, IfNone, OnErr, Some, None, [], ◌∷◌, is_none, length, sum_by, if◌then◌else◌};
-ghost use Rattle.forest_model.specs.Step.{first_cause, causes, step_with_room, ◌where_holds◌, item_length};
-ghost use Rattle.forest_model.specs.declared.refusal.Refusal.TheVariants.{NotFound};
+ghost use Rattle.std.specs.Prelude.{◌≡◌, ◌+◌, ◌*◌, ◌%◌, ◌^◌, ◌<◌, IfOk, IfNone, OnErr, Some, None, [], ◌∷◌, length, sum_by, if◌then◌else◌};
+ghost use Rattle.forest_model.specs.Step.{first_cause, causes, step_with_room, item_length};
 ghost use Rattle.forest_model.specs.Documents as docs;
 ghost use Rattle.forest_model.specs.Stores as stores;
 ghost use Rattle.forest_model.specs.declared.call.Call.TheVariants as calls;
-ghost use Rattle.forest_oracle.specs.Memory.{causes_before_growth};
 
 use super::limits::{any_wrong_body, any_wrong_key, is_worn, is_wrong_body, is_wrong_key};
 use super::tables::{doc_at, seq_of, set_seq, store_of};
+use super::turns::names_absent;
 use forest_model::{Bytes, Doc, DocKey, Documents, Item, Items, Refusal, Reply, State, StoreRef};
 use std::alloc::{AllocError, Global};
 
@@ -208,9 +207,7 @@ fn after_items(
 }
 
 fn why_not_batch(state: &State, at: StoreRef, items: &Items) -> Option<Refusal>
-    ensures why { IfSome result (λ why. Some why ≡ first_cause (causes state.now (calls.Batch at items.now))) }
-    ensures before_growth { result ≡ first_cause (causes_before_growth state.now (calls.Batch at items.now)) }
-    ensures last_cause { IfNone result (first_cause (causes state.now (calls.Batch at items.now)) ≡ first_cause ((NotFound where_holds is_none (docs.after_items at.store items.now (stores.seq_of state.now.stores at.store) state.now.documents)) ∷ [])) }
+    ensures why { result ≡ first_cause (causes state.now (calls.Batch at items.now)) }
     ensures room { IfNone result ((stores.seq_of state.now.stores at.store + length items.now < 2 ^ 62) × (state.now.place < 2 ^ 62)) }
 {
     if at.read_only {
@@ -229,6 +226,9 @@ fn why_not_batch(state: &State, at: StoreRef, items: &Items) -> Option<Refusal>
     if is_worn(seq, items.len() as u64) || is_worn(state.place, 1) {
         return Some(Refusal::Worn);
     }
+    if names_absent(state, at, items.as_slice()) {
+        return Some(Refusal::NotFound);
+    }
     None
 }
 
@@ -241,7 +241,7 @@ pub(super) fn batch(
     ensures step { IfOk result (λ reply. (reply, state.new) ≡ step_with_room state.old (calls.Batch at items.now)) }
     ensures err { OnErr result (state.new ≡ state.old) }
     ensures memory { OnErr result (result ≡ Err Refusal.NoMemory) }
-    ensures answered { OnErr result (first_cause (causes_before_growth state.old (calls.Batch at items.now)) ≡ None) }
+    ensures answered { OnErr result (first_cause (causes state.old (calls.Batch at items.now)) ≡ None) }
 {
     if let Some(why) = why_not_batch(state, at, items) {
         return Ok(Reply::Refused { why });
