@@ -83,6 +83,7 @@ impl Fresh for MemoryFresh {
         ensures failed { OnErr result (risen (⟦<MemoryFresh as block_host::Fresh>⟧.faults self.old) ≤ ⟦<MemoryFresh as block_host::Fresh>⟧.faults self.new) }
         ensures untroubled { OnOk result (⟦<MemoryFresh as block_host::Fresh>⟧.faults self.new ≡ ⟦<MemoryFresh as block_host::Fresh>⟧.faults self.old) }
         ensures faults { ⟦<MemoryFresh as block_host::Fresh>⟧.faults self.new ≡ (if is_err result then risen (⟦<MemoryFresh as block_host::Fresh>⟧.faults self.old) else ⟦<MemoryFresh as block_host::Fresh>⟧.faults self.old) }
+        ensures unread { OnErr result (out.new ≡ out.old) }
         ensures due { is_err result ≡ fresh_due self.old }
         ensures counted { fresh_plan self.new ≡ once_more (fresh_plan self.old) }
         ensures short { fresh_short self.new ≡ fresh_short self.old }

@@ -1,4 +1,4 @@
-ghost use Rattle.std.specs.Prelude.{◌≢◌, ◌<◌, ◌⊎◌, slice_get, option_copied, OnOk, OnErr, ◌≡◌, ◌≤◌, ◌∷◌, true, ℕ, [], unwrap_or, IfOk};
+ghost use Rattle.std.specs.Prelude.{◌≢◌, ◌<◌, ◌⊎◌, slice_get, option_copied, OnOk, OnErr, ◌≡◌, ◌≤◌, ◌∷◌, true, ℕ, [], unwrap_or, IsOk, IfOk};
 ghost use Rattle.host_memory.specs.Held.{held, Becomes as StateBecomes, Stays};
 ghost use Rattle.host_memory.specs.Pending.{no_file, appended, slot_written, cut_to, emptied, adopted, made_sure, zeroed_at};
 ghost use Rattle.host_memory.specs.Faults.{listed_of, numbered, only_listed};
@@ -31,8 +31,9 @@ impl MemoryHost {
     ghost use Rattle.host_memory.specs.Pending.{picked};
     ghost use Rattle.host_memory.specs.Memory.{memory_disk, memory_faults, memory_short, memory_file, memory_plan, memory_greatest, no_plan, HasRunShort, Untouched, Unmoved, Became};
 
-    /// A host without files that has said nothing and not failed.
+    /// A host without files that has said nothing and not failed. No memory is taken before a call needs some.
     pub fn empty(alloc: Global) -> Result<MemoryHost, AllocError>
+        ensures made { IsOk result }
         ensures files { IfOk result (λ host. (file : ℕ) → (memory_disk host).files file ≡ []) }
         ensures settled { IfOk result (λ host. (image : Image) → (memory_disk host).may_leave image → image ≡ (memory_disk host).files) }
         ensures moment { IfOk result (λ host. (memory_disk host).moment ≡ 0) }
@@ -240,6 +241,7 @@ impl Host for MemoryHost {
         ensures failed { OnErr result (risen (memory_faults self.old) ≤ memory_faults self.new) }
         ensures untroubled { OnOk result (memory_faults self.new ≡ memory_faults self.old) }
         ensures greatest { self.new.greatest ≡ self.old.greatest }
+        ensures unread { OnErr result (out.new ≡ out.old) }
         ensures due { is_err result ≡ memory_due self.old }
         ensures short { memory_short self.new ≡ memory_short self.old }
         ensures tried { Tried result self.old self.new }
@@ -498,6 +500,7 @@ impl Host for MemoryHost {
         ensures greatest { self.new.greatest ≡ self.old.greatest }
         ensures due { IsTrue (memory_due self.old) → IsErr result }
         ensures cause { OnErr result (IsTrue (memory_due self.old) ⊎ HasRunShort self.old self.new) }
+        ensures nothing_to_say { bytes.now ≡ [] → is_err result ≡ memory_due self.old }
         ensures tried { Tried result self.old self.new }
         ensures files { (file : ℕ) → memory_file self.new file ≡ memory_file self.old file }
         ensures nothing { OnErr result (Unmoved self.old self.new) }

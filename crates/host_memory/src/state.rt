@@ -1,4 +1,4 @@
-ghost use Rattle.std.specs.Prelude.{◌≡◌, ◌<◌, ◌++◌, [], ℕ, length, slice_get, option_copied, IfOk, OnOk, OnErr};
+ghost use Rattle.std.specs.Prelude.{◌≡◌, ◌<◌, ◌++◌, [], ℕ, length, slice_get, option_copied, IsOk, IfOk, OnOk, OnErr};
 ghost use Rattle.std.specs.Bool.{OnTrue, OnFalse};
 ghost use Rattle.host_memory.specs.Pending.{no_file, picked, appended, slot_written, cut_to, emptied, adopted, made_sure, zeroed_at};
 ghost use Rattle.block_host.specs.Calls.{block_at, NextFile};
@@ -209,6 +209,7 @@ impl State {
         ensures files { (file : ℕ) → held self.new file ≡ held self.old file }
         ensures said { OnOk result (self.new.said.items ≡ self.old.said.items ++ bytes.now) }
         ensures err { OnErr result (self.new.said.items ≡ self.old.said.items) }
+        ensures nothing { bytes.now ≡ [] → IsOk result }
     {
         self.said.extend_from_slice(bytes)
     }

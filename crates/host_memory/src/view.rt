@@ -58,6 +58,7 @@ impl View for MemoryView {
         ensures failed { OnErr result (risen (⟦<MemoryView as block_host::View>⟧.faults self.old) ≤ ⟦<MemoryView as block_host::View>⟧.faults self.new) }
         ensures untroubled { OnOk result (⟦<MemoryView as block_host::View>⟧.faults self.new ≡ ⟦<MemoryView as block_host::View>⟧.faults self.old) }
         ensures faults { ⟦<MemoryView as block_host::View>⟧.faults self.new ≡ (if is_err result then risen (⟦<MemoryView as block_host::View>⟧.faults self.old) else ⟦<MemoryView as block_host::View>⟧.faults self.old) }
+        ensures unread { OnErr result (out.new ≡ out.old) }
         ensures due { is_err result ≡ view_due self.old }
         ensures counted { view_plan self.new ≡ once_more (view_plan self.old) }
         ensures short { view_short self.new ≡ view_short self.old }
