@@ -1,6 +1,7 @@
 -- Why a walk down a tree ends without an answer.
-use Rattle.std.specs.Prelude.{◌≡◌, ◌⊎◌, ℕ, zero, suc, ◌/◌, ◌≤◌, Bool, false, List, slice_get, Option, Some, IsTrue}
+use Rattle.std.specs.Prelude.{◌≡◌, ◌⊎◌, ℕ, zero, suc, ◌+◌, ◌/◌, ◌≤◌, Bool, false, List, slice_get, Option, Some, IsTrue}
 use Rattle.block_host.specs.Disk.{risen}
+use Rattle.doc_stream.specs.Causes.{longest_run}
 use Rattle.forest_model.specs.declared.refusal.Refusal.{Refusal}
 use Rattle.node_page.specs.Nodes.{Entry}
 use Rattle.node_page.specs.declared.page.Page.{Page}
@@ -65,9 +66,10 @@ abbrev pub AddFails : Shelf → Shelf → ℕ → ℕ → Refusal → Type 0
 AddFails old new before after why =
     (((why ≡ is_full old) × (old.most ≤ old.used)) ⊎ ((why ≡ Refusal.DiskFault) × (risen before ≤ after))) × (new ≡ old)
 
--- The reasons not to give a record: no memory, a count of faults that rose, or a block, at or behind the address, by which
--- there is no record there.
+-- The reasons not to give a record: no memory, a count of faults that rose, or a block by which there is no record at the
+-- address: the address's own, or one of those behind it that a record may reach.
 abbrev pub DocumentFails : Bool → Shelf → ℕ → ℕ → ℕ → Refusal → Type 0
 DocumentFails tells s address before after why =
     (why ≡ Refusal.NoMemory) ⊎ ((why ≡ Refusal.DiskFault) × (risen before ≤ after))
-    ⊎ ((block : ℕ) × (why ≡ Refusal.Damaged s.file block) × (address / 4096 ≤ block) × (IsTrue tells → BreaksAt s address block))
+    ⊎ ((block : ℕ) × (why ≡ Refusal.Damaged s.file block) × (address / 4096 ≤ block) × (block ≤ address / 4096 + longest_run)
+    × (IsTrue tells → BreaksAt s address block))

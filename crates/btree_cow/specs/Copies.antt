@@ -38,7 +38,7 @@ pub record Makes (leaf : Bool) (content : List Entry) (old new : Shelf) (grown :
   pub made : IsMade new leaf content grown
   pub used : new.used ≡ old.used + node_count grown
 
--- So many new nodes stand for those on a way of so many links down: the leaf's entries with the value for the chunk, and
+-- So many nodes stand for those on a way of so many links down: the leaf's entries with the value for the chunk, and
 -- above it each node's children, all as they were but the one on the way.
 abbrev pub PutsAlong : Shelf → Shelf → ℕ → ℕ → ℕ → ℕ → Grown → ℕ → Type 0
 PutsAlong old new zero at chunk value grown nodes =

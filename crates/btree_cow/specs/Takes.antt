@@ -105,7 +105,7 @@ pub record TakesOut (content : List Entry) (chunk : ℕ) (old new : Shelf) (shru
 
 -- ---- a way
 
--- So many new nodes stand for those on a way of so many links down: the leaf's entries without the chunk, and above it
+-- So many nodes stand for those on a way of so many links down: the leaf's entries without the chunk, and above it
 -- each node's children, all as they were but the one on the way and, where that got short, its neighbour.
 abbrev pub TakesAlong : Shelf → Shelf → ℕ → ℕ → ℕ → Shrunk → ℕ → Type 0
 TakesAlong old new zero at chunk shrunk nodes = (content : List Entry) × NodeAt old at true content × TakesEntry new content chunk shrunk nodes
