@@ -1,12 +1,12 @@
 -- Each test of a cause, against what it asks in words.
-use Rattle.std.proofs.Common.{◌≡◌, ◌≢◌, ℕ, zero, suc, ◌+◌, ◌≤◌, ◌&&◌, ◌||◌, Bool, true, false, cond, not, List, [], ◌∷◌, Option, Some, None, codes, nat_eq, nat_lt, ◌⊎◌, inl, inr, ◌↔◌, refl, sym, ap, ◌∙◌, arith}
-use Rattle.std.specs.Bool.{◌==◌, IsTrue}
-use Rattle.std.specs.List.{find}
+use Rattle.std.proofs.Common.{◌≡◌, ◌≢◌, ℕ, zero, suc, ◌+◌, ◌≤◌, ◌&&◌, ◌||◌, Bool, true, false, cond, not, List, [], ◌∷◌, length, Option, Some, None, codes, nat_eq, nat_le, nat_lt, ◌⊎◌, inl, inr, ◌↔◌, refl, sym, ap, ◌∙◌, arith}
+use Rattle.std.specs.Bool.{◌==◌}
+use Rattle.std.specs.List.{find, list_all, AllByRecursion}
 use Rattle.std.specs.Option.{is_none, is_some, option_map_or}
 use Rattle.std.specs.Cmp.Lexicographic.{pointwise, bytes_decides}
 use Rattle.std.proofs.lemmas.Bool.{and_from, and_parts, or_from, or_parts, not-false, not_from_true, leb-true, leb-false, le-leb, lt-leb, ltb-false, le-ltb, eqb-true, eqb-false, eq-eqb, ne_eqb, true≢false}
 use Rattle.std.proofs.lemmas.Option.{none-some}
-use Rattle.forest_model.specs.Limits.{is_wrong_key, is_wrong_body, is_name, is_worn, any_worn}
+use Rattle.forest_model.specs.Limits.{is_wrong_key, is_wrong_body, is_name_byte, is_name, is_worn, any_worn}
 use Rattle.forest_model.specs.Stores.{store_of, store_named, has_seq, from_number}
 use Rattle.forest_model.specs.State.{OfStore, HasNumber, nothing_new}
 use Rattle.forest_model.specs.Step.{◌where_holds◌}
@@ -15,7 +15,7 @@ use Rattle.forest_model.specs.declared.state.Commit.{Commit}
 use Rattle.forest_model.specs.declared.state.Copying.{Copying}
 use Rattle.forest_model.specs.declared.state.State.{State}
 use Rattle.forest_model.specs.declared.state.Store.{Store}
-use Rattle.model_laws.specs.Answered.{IsKey, IsContent, MayDraw, HasName, IsNothingNew, IsAtSeq, HasAtSeq, HasTicket}
+use Rattle.model_laws.specs.Answered.{IsKey, IsContent, IsBetween, IsNameByte, IsName, MayDraw, HasName, IsNothingNew, IsAtSeq, HasAtSeq, HasTicket}
 use Rattle.model_laws.specs.Reads.{shown_ticket}
 use Rattle.model_laws.proofs.Same.{nothing_new_decides}
 use Rattle.model_laws.proofs.Steps.{unmet}
@@ -139,13 +139,76 @@ pub room_is : (why : Refusal) (max used : ℕ) → ((why where_holds nat_lt max 
 room_is why max used = (λ e. ltb-false max used (unmet _ _ e), λ h. idle _ _ (le-ltb max used h))
 
 -- the form of a name
-pub name_fits : (name : List ℕ) → (not (is_name name) ≡ false) ↔ IsTrue (is_name name)
-name_fits name = (λ e. not-false _ e, λ h. not_from_true _ h)
+either : (a b : Bool) (P Q : Type 0) → (a ≡ true) ↔ P → (b ≡ true) ↔ Q → ((a || b) ≡ true) ↔ (P ⊎ Q)
+either true b P Q p q = (λ e. inl (p.0 refl), λ h. refl)
+either false b P Q p q = (λ e. inr (q.0 e), λ h. elim h [ inl x ↦ absurd (true≢false (sym (p.1 x))) | inr y ↦ q.1 y ])
 
-pub may_go : (name : List ℕ) → ((not (is_name name) || pointwise nat_eq name (codes "default")) ≡ false) ↔ (IsTrue (is_name name) × (name ≢ codes "default"))
+between : (low high b : ℕ) → ((nat_le low b && nat_le b high) ≡ true) ↔ IsBetween low high b
+between low high b = (
+  λ e. let p = and_parts _ _ e in (leb-true _ _ p.0, leb-true _ _ p.1),
+  λ h. and_from _ _ (le-leb _ _ h.0) (le-leb _ _ h.1),
+)
+
+is_code : (code b : ℕ) → ((b == code) ≡ true) ↔ (b ≡ code)
+is_code code b = (λ e. eqb-true b code e, λ h. eq-eqb b code h)
+
+-- alternatives that are grouped from the left, and from the right
+regrouped : (A B C D E F : Type 0) → (((((A ⊎ B) ⊎ C) ⊎ D) ⊎ E) ⊎ F) ↔ (A ⊎ B ⊎ C ⊎ D ⊎ E ⊎ F)
+regrouped A B C D E F = (
+  λ h. elim h [
+    | inl g ↦ elim g [
+      | inl f ↦ elim f [
+        | inl e ↦ elim e [ inl d ↦ elim d [ inl a ↦ inl a | inr b ↦ inr (inl b) ] | inr c ↦ inr (inr (inl c)) ]
+        | inr d ↦ inr (inr (inr (inl d)))
+      ]
+      | inr e ↦ inr (inr (inr (inr (inl e))))
+    ]
+    | inr f ↦ inr (inr (inr (inr (inr f))))
+  ],
+  λ h. elim h [
+    | inl a ↦ inl (inl (inl (inl (inl a))))
+    | inr g ↦ elim g [
+      | inl b ↦ inl (inl (inl (inl (inr b))))
+      | inr f ↦ elim f [
+        | inl c ↦ inl (inl (inl (inr c)))
+        | inr e ↦ elim e [ inl d ↦ inl (inl (inr d)) | inr d ↦ elim d [ inl x ↦ inl (inr x) | inr y ↦ inr y ] ]
+      ]
+    ]
+  ],
+)
+
+name_byte : (b : ℕ) → (is_name_byte b ≡ true) ↔ IsNameByte b
+name_byte b =
+    let letters = either _ _ _ _ (between 97 122 b) (between 65 90 b) in
+    let alphanumeric = either _ _ _ _ letters (between 48 57 b) in
+    let with_underscore = either _ _ _ _ alphanumeric (is_code 95 b) in
+    let all = either _ _ _ _ (either _ _ _ _ with_underscore (is_code 45 b)) (is_code 46 b) in
+    let groups = regrouped (IsBetween 97 122 b) (IsBetween 65 90 b) (IsBetween 48 57 b) (b ≡ 95) (b ≡ 45) (b ≡ 46) in
+    (λ e. groups.0 (all.0 e), λ h. all.1 (groups.1 h))
+
+name_bytes : (name : List ℕ) → (list_all is_name_byte name ≡ true) ↔ AllByRecursion IsNameByte name
+name_bytes [] = (λ e. tt, λ h. refl)
+name_bytes (b ∷ name) = (
+  λ e. let p = and_parts (is_name_byte b) (list_all is_name_byte name) e in ((name_byte b).0 p.0, (name_bytes name).0 p.1),
+  λ h. and_from (is_name_byte b) (list_all is_name_byte name) ((name_byte b).1 h.0) ((name_bytes name).1 h.1),
+)
+
+pub name_is : (name : List ℕ) → (is_name name ≡ true) ↔ IsName name
+name_is name = (
+  λ e.
+      let p = and_parts (nat_le 1 (length name) && nat_le (length name) 31) (list_all is_name_byte name) e in
+      let q = and_parts (nat_le 1 (length name)) (nat_le (length name) 31) p.0 in
+      (leb-true _ _ q.0, leb-true _ _ q.1, (name_bytes name).0 p.1),
+  λ h. and_from _ _ (and_from _ _ (le-leb _ _ h.0) (le-leb _ _ h.1)) ((name_bytes name).1 h.2),
+)
+
+pub name_fits : (name : List ℕ) → (not (is_name name) ≡ false) ↔ IsName name
+name_fits name = (λ e. (name_is name).0 (not-false _ e), λ h. not_from_true _ ((name_is name).1 h))
+
+pub may_go : (name : List ℕ) → ((not (is_name name) || pointwise nat_eq name (codes "default")) ≡ false) ↔ (IsName name × (name ≢ codes "default"))
 may_go name = (
-  λ e. let p = or_parts _ _ e in (not-false _ p.0, λ same. true≢false (sym ((bytes_decides name (codes "default")).1 same) ∙ p.1)),
-  λ h. or_from _ _ (not_from_true _ h.0) (by (pointwise nat_eq name (codes "default")) (bytes_decides name (codes "default")).0 h.1),
+  λ e. let p = or_parts _ _ e in ((name_is name).0 (not-false _ p.0), λ same. true≢false (sym ((bytes_decides name (codes "default")).1 same) ∙ p.1)),
+  λ h. or_from _ _ (not_from_true _ ((name_is name).1 h.0)) (by (pointwise nat_eq name (codes "default")) (bytes_decides name (codes "default")).0 h.1),
 )
   where
     by : (b : Bool) → (b ≡ true → name ≡ codes "default") → name ≢ codes "default" → b ≡ false

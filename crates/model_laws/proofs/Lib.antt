@@ -2,6 +2,7 @@ pub mod AtTurn
 pub mod Changes
 pub mod Commits
 pub mod Conditions
+pub mod Copies
 pub mod Finding
 pub mod Free
 pub mod FreeCalls

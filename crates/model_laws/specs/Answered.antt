@@ -2,7 +2,6 @@
 use Rattle.std.specs.Prelude.{◌≡◌, ◌≢◌, ℕ, ◌+◌, ◌-◌, ◌/◌, ◌^◌, ◌<◌, ◌≤◌, ◌⊎◌, ◌↔◌, Bool, false, ◌&&◌, ◌||◌, not, List, [], ◌∷◌, length, Option, Some, None, is_some, nat_eq, codes, IsTrue}
 use Rattle.std.specs.List.{AllByRecursion}
 use Rattle.std.specs.Cmp.Lexicographic.{pointwise}
-use Rattle.forest_model.specs.Limits.{is_name}
 use Rattle.forest_model.specs.Documents.{doc_at}
 use Rattle.forest_model.specs.Stores.{store_of}
 use Rattle.forest_model.specs.State.{OfStore, HasNumber, retained}
@@ -45,6 +44,16 @@ IsItemKey (Del key) = IsKey key
 abbrev pub IsItemContent : Item → Type 0
 IsItemContent (Put key meta body) = IsContent meta body
 IsItemContent (Del key) = Unit {0}
+
+-- a name of 1 to 31 letters from a to z and from A to Z, digits, and the bytes `_`, `-` and `.`
+abbrev pub IsBetween : ℕ → ℕ → ℕ → Type 0
+IsBetween low high b = (low ≤ b) × (b ≤ high)
+
+abbrev pub IsNameByte : ℕ → Type 0
+IsNameByte b = IsBetween 97 122 b ⊎ IsBetween 65 90 b ⊎ IsBetween 48 57 b ⊎ (b ≡ 95) ⊎ (b ≡ 45) ⊎ (b ≡ 46)
+
+abbrev pub IsName : List ℕ → Type 0
+IsName name = (1 ≤ length name) × (length name ≤ 31) × AllByRecursion IsNameByte name
 
 -- a number that isn't worn
 abbrev pub MayDraw : ℕ → Type 0
@@ -127,10 +136,10 @@ NoCause s file (Info at) = HasStore s at.store
 NoCause s file Markers = Unit {0}
 -- the name is there; or it is new, and there are fewer than 64 stores
 NoCause s file (StoreOpen name read_only) =
-    IsTrue (is_name name)
+    IsName name
     × (HasName name s.stores ⊎ ((HasName name s.stores → ⊥) × (read_only ≡ false) × MayDraw s.next_store × MayDraw (s.place + 1) × (length s.stores < 64) × HasRoom s file (24 + length name)))
 NoCause s file (StoreRemove at name) =
-    MayWrite at × IsTrue (is_name name) × (name ≢ codes "default") × HasName name s.stores × MayDraw (s.place + 1) × HasRoom s file 24
+    MayWrite at × IsName name × (name ≢ codes "default") × HasName name s.stores × MayDraw (s.place + 1) × HasRoom s file 24
 NoCause s file (Commit at) = MayWrite at × (IsNothingNew s ⊎ (MayDraw s.next_commit × MayDraw (s.place + 1)))
 -- nothing would change; or the place may be drawn and the file takes what is copied
 NoCause s file (Rollback at number) =

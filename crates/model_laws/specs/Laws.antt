@@ -3,7 +3,7 @@ use Rattle.std.specs.Prelude.{◌≡◌, ◌≢◌, ℕ, ◌+◌, ◌<◌, ◌�
 use Rattle.std.specs.List.{list_all}
 use Rattle.forest_model.specs.Documents.{key_at, doc_of}
 use Rattle.forest_model.specs.Stores.{store_of}
-use Rattle.forest_model.specs.State.{IsState, OfStore, retained, durable_of, nothing_new}
+use Rattle.forest_model.specs.State.{IsState, OfStore, durable_of, nothing_new}
 use Rattle.forest_model.specs.Blocks.{File, is_records, last_header}
 use Rattle.forest_model.specs.Run.{unflushed_from}
 use Rattle.forest_model.specs.Step.{step_of, found_of}
@@ -11,9 +11,8 @@ use Rattle.forest_model.specs.declared.call.StoreRef.{StoreRef}
 use Rattle.forest_model.specs.declared.call.Call.{Call}
 use Rattle.forest_model.specs.declared.call.Call.TheVariants.{Set, Get, BySeq, Info, Markers, StoreOpen, Commit, Rollback, SnapLatest, SnapAt, Begin, Delta, Switch}
 use Rattle.forest_model.specs.declared.call.Reply.{Reply}
-use Rattle.forest_model.specs.declared.call.Reply.TheVariants.{Seq, Document, Store, Committed, Rolled, Begun, Switched, Refused}
+use Rattle.forest_model.specs.declared.call.Reply.TheVariants.{Seq, Document, Store, Committed, Begun, Refused}
 use Rattle.forest_model.specs.declared.refusal.Refusal.{Refusal}
-use Rattle.forest_model.specs.declared.state.Commit.{Commit as CommitRow}
 use Rattle.forest_model.specs.declared.state.State.{State}
 
 -- the reply to a call, and the state after it

@@ -1,5 +1,6 @@
 pub mod Answered
 pub mod Commits
+pub mod Copies
 pub mod Laws
 pub mod Reads
 pub mod Refusals

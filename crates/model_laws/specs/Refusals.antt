@@ -1,7 +1,6 @@
 -- Which refusal a call meets: what is asked of it, one thing after another, each with the refusal where it doesn't hold.
-use Rattle.std.specs.Prelude.{◌≡◌, ◌≢◌, ℕ, ◌+◌, ◌/◌, ◌<◌, ◌⊎◌, ◌↔◌, false, length, None, is_some, codes, IsTrue}
+use Rattle.std.specs.Prelude.{◌≡◌, ◌≢◌, ℕ, ◌+◌, ◌/◌, ◌<◌, ◌⊎◌, ◌↔◌, false, length, None, is_some, codes}
 use Rattle.std.specs.List.{AllByRecursion}
-use Rattle.forest_model.specs.Limits.{is_name}
 use Rattle.forest_model.specs.Documents.{doc_at}
 use Rattle.forest_model.specs.State.{HasNumber, retained}
 use Rattle.forest_model.specs.Blocks.{File, blocks_to_copy}
@@ -12,7 +11,7 @@ use Rattle.forest_model.specs.declared.refusal.Refusal.{Refusal}
 use Rattle.forest_model.specs.declared.refusal.Refusal.TheVariants.{NotFound, NoCommit, ReadOnly, KeyLength, BodyLength, Compacting, NoTicket, FileFull, NoStore, StoreCount, NameForm, NotCopied, Worn}
 use Rattle.forest_model.specs.declared.state.State.{State}
 use Rattle.model_laws.specs.Laws.{reply_to}
-use Rattle.model_laws.specs.Answered.{MayWrite, IsKey, IsContent, IsItemKey, IsItemContent, MayDraw, HasStore, MayDrawSeq, HasName, HasKey, HasSeq, FindsEach, IsNothingNew, HasAtSeq, IsRunning, all_bytes, TakesBlocks, HasRoom}
+use Rattle.model_laws.specs.Answered.{MayWrite, IsKey, IsContent, IsItemKey, IsItemContent, IsName, MayDraw, HasStore, MayDrawSeq, HasName, HasKey, HasSeq, FindsEach, IsNothingNew, HasAtSeq, IsRunning, all_bytes, TakesBlocks, HasRoom}
 use Rattle.model_laws.specs.Reads.{shown_ticket}
 
 -- P is asked, else the refusal comes; then the rest is asked
@@ -45,11 +44,11 @@ RefusedBy s file (Info at) why = Asks (HasStore s at.store) NoStore why ⊥
 RefusedBy s file Markers why = ⊥
 -- a new name is for a reference that may write, draws an id, and asks for a place in the table and in the file
 RefusedBy s file (StoreOpen name read_only) why =
-    Asks (IsTrue (is_name name)) NameForm why (Asks (HasName name s.stores ⊎ (read_only ≡ false)) NoStore why
+    Asks (IsName name) NameForm why (Asks (HasName name s.stores ⊎ (read_only ≡ false)) NoStore why
     (Asks (HasName name s.stores ⊎ (MayDraw s.next_store × MayDraw (s.place + 1))) Worn why (Asks (HasName name s.stores ⊎ (length s.stores < 64)) StoreCount why
     (Asks (HasName name s.stores ⊎ HasRoom s file (24 + length name)) (FileFull (length file) ((s.loose + (24 + length name)) / 4064) s.limits.max_blocks) why ⊥))))
 RefusedBy s file (StoreRemove at name) why =
-    Asks (MayWrite at) ReadOnly why (Asks (IsTrue (is_name name) × (name ≢ codes "default")) NameForm why (Asks (HasName name s.stores) NoStore why
+    Asks (MayWrite at) ReadOnly why (Asks (IsName name × (name ≢ codes "default")) NameForm why (Asks (HasName name s.stores) NoStore why
     (Asks (MayDraw (s.place + 1)) Worn why (AsksRoom s file 24 why))))
 RefusedBy s file (Commit at) why = Asks (MayWrite at) ReadOnly why (Asks (IsNothingNew s ⊎ (MayDraw s.next_commit × MayDraw (s.place + 1))) Worn why ⊥)
 RefusedBy s file (Rollback at number) why =

@@ -10,6 +10,7 @@ ghost use Rattle.model_laws.specs.Refusals.{RefusedExactly};
 ghost use Rattle.model_laws.specs.Writes.{SetDraws, DeleteTakes, BatchIsItems};
 ghost use Rattle.model_laws.specs.Tables.{OpenFinds, OpenMakes, RemoveTakes};
 ghost use Rattle.model_laws.specs.Commits.{CommitKeeps, CommitAgain, RollbackReturns, RollbackAgain, BeginNames, DeltaTells, SwitchKeeps, CancelEnds};
+ghost use Rattle.model_laws.specs.Copies.{CopiesOf};
 ghost use Rattle.model_laws.specs.Reads.{GetTells, BySeqTells, OneDocument, InfoTells, MarkersTell, SnapsTell, SnapAtShows, SnapLatestShows};
 
 /// A refused call and a call that reads leave the state, and any other raises the place by one.
@@ -116,4 +117,9 @@ pub fn durable()
 /// Record blocks that are put behind a file leave its last header.
 pub fn record_blocks()
     ensures { RecordsKeepHeader }
+{}
+
+/// A rollback copies the record blocks below its commit's header, from the block on that this header names.
+pub fn rollback_copies()
+    ensures { CopiesOf }
 {}
