@@ -2,3 +2,4 @@ mod Numbers
 mod Calls
 mod Lanes
 mod Turns
+mod Rows

@@ -2,10 +2,9 @@ ghost use Rattle.std.specs.Prelude.{◌≡◌, ◌<◌, ℕ, Some, None, Err, ve
 ghost use Rattle.std.specs.Option.{option_map};
 ghost use Rattle.forest_model.specs.Blocks.{File};
 ghost use Rattle.forest_model.specs.Session.{Session, first_lane, first_session, turn_of, turn_aside, turn_by_file, turn_by_snapshot, turn_by_copier};
-ghost use Rattle.forest_model.specs.Step.{first_cause, step_with_room};
+ghost use Rattle.forest_model.specs.Step.{causes, first_cause, step_with_room};
 ghost use Rattle.forest_model.specs.declared.line.Verb.{Verb};
 ghost use Rattle.forest_model.specs.declared.refusal.Refusal.TheVariants as Refusal;
-ghost use Rattle.forest_oracle.specs.Memory.{causes_before_growth};
 ghost use Rattle.plain_session.specs.Memory.{IsCallAnswered, call_takes_memory, line_takes_memory, is_copy};
 ghost use Rattle.plain_session.specs.Plain.{Shows, HasRoom, ShowsTurn, ShowsTurnIfAny, lane_shown, said_by_lane};
 
@@ -46,7 +45,7 @@ impl PlainSession {
     }
 
     /// Runs a line: what is told for it, and none for the server's line `compact`. An `Err` is want of memory, and comes
-    /// only of a line that takes memory and that nothing refuses before it does.
+    /// only of a line that takes memory and that nothing refuses.
     pub fn tell(&mut self, line: Line) -> Result<Option<Told>, Refusal>
         requires lane { line.lane < 16 }
         ensures tells { (w : Session) (file : File) → Shows self.old w → HasRoom w file line
@@ -88,7 +87,7 @@ impl PlainSession {
         ensures kept { OnErr result ((w : Session) → Shows self.old w → Shows self.new w) }
         ensures memory { OnErr result (result ≡ Err Refusal.NoMemory) }
         ensures memory_needed { OnErr result (IsTrue (call_takes_memory self.old.oracle.state call.now)) }
-        ensures answered { OnErr result (first_cause (causes_before_growth self.old.oracle.state call.now) ≡ None) }
+        ensures answered { OnErr result (first_cause (causes self.old.oracle.state call.now) ≡ None) }
     {
         let reply = self.oracle.step(call)?;
         let opened = opened_for(self.alloc, &self.oracle.state, call, &reply)?;

@@ -1,0 +1,12 @@
+-- The documents that are left come to the same as all.
+use Rattle.std.proofs.Common.{◌≡◌, ◌&&◌}
+use Rattle.std.specs.FinMap as finite
+use Rattle.std.specs.List.{list_any}
+use Rattle.forest_model.specs.Documents.{is_of}
+use Rattle.forest_model.specs.Session.{is_numbered_within}
+use Rattle.plain_session.proofs.lists.has_numbered_within.Given as goal
+
+abbrev pub invariant-loop-place : goal.invariant-loop-place
+invariant-loop-place l =
+    list_any (λ e. is_of l.store e && is_numbered_within l.up l.from e.1.seq) l.place-iterator
+    ≡ list_any (λ e. is_of l.store e && is_numbered_within l.up l.from e.1.seq) (finite.entries l.documents)
