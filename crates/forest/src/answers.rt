@@ -72,36 +72,3 @@ pub(crate) fn play_in_memory<S: Source>(
     let host = new_host(alloc)?;
     Ok(play(alloc, words, source, host))
 }
-
-#[cfg(test)]
-mod tests {
-    use super::*;
-    use block_host::MemorySource;
-    use std::test::Fail;
-
-    #[test]
-    fn runs_a_script_and_refuses_other_words(rt: HostRuntime) -> Result<(), Fail> {
-        let alloc = rt.alloc();
-        let table: [(&str, u8, &[u8]); 2] = [
-            ("--memory", 0, b"0 1 ok 1\n0 2 commit 1\n0 2 found 1 red\n"),
-            ("--memory=", 1, b"words refused\n"),
-        ];
-        for (option, status, said) in table {
-            let mut source = MemorySource::new(b"0 set apple red\n0 commit\n0 get apple\n".to_vec(
-                alloc,
-            )?);
-            let words = vec![in alloc;
-                String::from_str(alloc, "play")?,
-                String::from_str(alloc, option)?,
-            ]?;
-            let played = play_in_memory(alloc, words.as_slice(), &mut source)?;
-            let Played {
-                status: ended,
-                host,
-            } = played;
-            assert_eq!(rt; ended, status);
-            assert_eq!(rt; host.said(), said);
-        }
-        Ok(())
-    }
-}

@@ -1,18 +1,20 @@
+ghost use Rattle.script_text.specs.Replies.{CanBeSaid};
+
 use crate::listener::Listener;
 use crate::{Played, play};
 use block_host::{Failed, Host, MemorySource, Source};
+use forest_model::{Refusal, Said};
+use script_text::reply_text;
 use std::alloc::{AllocError, Global};
-use std::process::Abort;
 use std::sync::Arc;
 use std::sync::atomic::{AtomicUsize, Ordering};
 use std::test::Fail;
 
-fn words(alloc: Global, texts: &[&str]) -> Result<Vec<String>, AllocError> {
-    let mut words = Vec::new(alloc);
-    for text in texts {
-        words.push(String::from_str(alloc, text)?)?;
-    }
-    Ok(words)
+fn words(alloc: Global) -> Result<Vec<String>, AllocError> {
+    vec![in alloc;
+        String::from_str(alloc, "play")?,
+        String::from_str(alloc, "--memory")?,
+    ]
 }
 
 fn run_from<S: Source>(
@@ -22,167 +24,8 @@ fn run_from<S: Source>(
 ) -> Result<Played<Listener>, AllocError> {
     let mut host = Listener::new(alloc)?;
     host.fails_at = fails_at;
-    let words = words(alloc, ["play", "--memory"].as_slice())?;
+    let words = words(alloc)?;
     Ok(play(alloc, words.as_slice(), source, host))
-}
-
-fn run(alloc: Global, script: &[u8]) -> Result<Played<Listener>, AllocError> {
-    let mut source = MemorySource::new(script.to_vec(alloc)?);
-    run_from(alloc, &mut source, 0)
-}
-
-// A script says these bytes and ends with this status.
-fn tells(
-    rt: &impl Abort,
-    alloc: Global,
-    script: &[u8],
-    said: &[u8],
-    status: u8,
-) -> Result<(), AllocError> {
-    let played = run(alloc, script)?;
-    assert_eq!(rt; played.status, status);
-    assert_eq!(rt; played.host.said.as_slice(), said);
-    Ok(())
-}
-
-#[test]
-fn scripts_and_what_is_said(rt: HostRuntime) -> Result<(), Fail> {
-    let table: [(&[u8], &[u8], u8); 9] = [
-        (
-            b"0 set apple red\n0 commit\n0 get apple\n",
-            b"0 1 ok 1\n0 2 commit 1\n0 2 found 1 red\n",
-            0,
-        ),
-        (b"", b"", 0),
-        (
-            b"0 commit\n0 set a 1\n0 commit\n0 commit\n",
-            b"0 0 commit 0\n0 1 ok 1\n0 2 commit 1\n0 2 commit 1\n",
-            0,
-        ),
-        (
-            b"0 set k 1\n0 set k 2\n0 get k\n0 get j\n",
-            b"0 1 ok 1\n0 2 ok 2\n0 2 found 2 2\n0 2 refused not-found\n",
-            0,
-        ),
-        (b"0 set a 1\n0 get a", b"0 1 ok 1\n0 1 found 1 1\n", 0),
-        (
-            b"0 set a 1\n0 get a\n0 frob\n0 get a\n",
-            b"0 1 ok 1\n0 1 found 1 1\nline 3: bad line\n",
-            3,
-        ),
-        (
-            b"0 commit\n\n0 commit\n",
-            b"0 0 commit 0\nline 2: bad line\n",
-            3,
-        ),
-        (b"0 commit\n0 comm", b"0 0 commit 0\nline 2: bad line\n", 3),
-        (b"\n", b"line 1: bad line\n", 3),
-    ];
-    for (script, said, status) in table {
-        tells(&rt, rt.alloc(), script, said, status)?;
-    }
-    Ok(())
-}
-
-#[test]
-fn near_misses_are_bad_lines(rt: HostRuntime) -> Result<(), Fail> {
-    let table: [&[u8]; 17] = [
-        b" 0 get a",
-        b"0 get a ",
-        b"0  get a",
-        b"0 get  a",
-        b"0\tget a",
-        b"16 get a",
-        b"00 get a",
-        b"get a",
-        b"0",
-        b"0 GET a",
-        b"0 get",
-        b"0 get a b",
-        b"0 get %41",
-        b"0 set a",
-        b"0 commit now",
-        b"0 get a\r",
-        b"0 batch",
-    ];
-    for line in table {
-        let played = run(rt.alloc(), line)?;
-        assert_eq!(rt; played.status, 3, "at {line:?}");
-        assert_eq!(rt;
-            played.host.said.as_slice(),
-            b"line 1: bad line\n".as_slice(),
-            "at {line:?}"
-        );
-    }
-    Ok(())
-}
-
-#[test]
-fn lines_that_are_not_built_are_bad_lines(rt: HostRuntime) -> Result<(), Fail> {
-    let table: [&[u8]; 8] = [
-        b"0 markers",
-        b"0 rollback 0",
-        b"0 snap latest",
-        b"0 snap get a",
-        b"0 scan up - 1",
-        b"0 seqs up 0 1",
-        b"0 compact begin",
-        b"0 compact",
-    ];
-    for line in table {
-        tells(&rt, rt.alloc(), line, b"line 1: bad line\n", 3)?;
-    }
-    Ok(())
-}
-
-// `0 get` and a key of so many letters
-fn get_of(alloc: Global, letters: usize) -> Result<Vec<u8>, AllocError> {
-    let mut line = b"0 get ".to_vec(alloc)?;
-    line.extend_from_slice(vec![in alloc; b'k'; letters]?.as_slice())?;
-    Ok(line)
-}
-
-#[test]
-fn keys_have_3500_bytes_at_most(rt: HostRuntime) -> Result<(), Fail> {
-    let longest = get_of(rt.alloc(), 3500)?;
-    tells(
-        &rt,
-        rt.alloc(),
-        longest.as_slice(),
-        b"0 0 refused not-found\n",
-        0,
-    )?;
-    let longer = get_of(rt.alloc(), 3501)?;
-    tells(
-        &rt,
-        rt.alloc(),
-        longer.as_slice(),
-        b"0 0 refused key-length\n",
-        0,
-    )?;
-    Ok(())
-}
-
-#[test]
-fn other_words_are_refused(rt: HostRuntime) -> Result<(), Fail> {
-    let alloc = rt.alloc();
-    let table: [&[&str]; 7] = [
-        &[],
-        &["play"],
-        &["--memory"],
-        &["--memory", "play"],
-        &["play", "--memory", ""],
-        &["Play", "--memory"],
-        &["play", "--memory "],
-    ];
-    for texts in table {
-        let words = words(alloc, texts)?;
-        let mut source = MemorySource::new(b"0 commit\n".to_vec(alloc)?);
-        let played = play(alloc, words.as_slice(), &mut source, Listener::new(alloc)?);
-        assert_eq!(rt; played.status, 1);
-        assert_eq!(rt; played.host.said.as_slice(), b"words refused\n".as_slice());
-    }
-    Ok(())
 }
 
 // Gives a piece at each read, and tests that all before it was answered: the bytes said are these so far.
@@ -237,7 +80,7 @@ fn lines_are_answered_as_they_become_whole(rt: HostRuntime) -> Result<(), Fail> 
         heard,
         late: 0,
     };
-    let words = words(alloc, ["play", "--memory"].as_slice())?;
+    let words = words(alloc)?;
     let played = play(alloc, words.as_slice(), &mut source, host);
     assert_eq!(rt; played.status, 0);
     assert_eq!(rt; source.next, 6);
@@ -273,7 +116,7 @@ fn a_damaged_block_ends_the_run(rt: HostRuntime) -> Result<(), Fail> {
     let alloc = rt.alloc();
     let mut host = Listener::new(alloc)?;
     host.spoiled = 1;
-    let words = words(alloc, ["play", "--memory"].as_slice())?;
+    let words = words(alloc)?;
     let script = b"0 set a 1\n0 get a\n0 commit\n0 get a\n0 get a\n";
     let mut source = MemorySource::new(script.to_vec(alloc)?);
     let played = play(alloc, words.as_slice(), &mut source, host);
@@ -291,7 +134,7 @@ fn a_host_without_a_new_store(rt: HostRuntime) -> Result<(), Fail> {
     let alloc = rt.alloc();
     let mut host = Listener::new(alloc)?;
     host.file.clear();
-    let words = words(alloc, ["play", "--memory"].as_slice())?;
+    let words = words(alloc)?;
     let mut source = MemorySource::new(b"0 commit\n".to_vec(alloc)?);
     let played = play(alloc, words.as_slice(), &mut source, host);
     assert_eq!(rt; played.status, 7);
@@ -328,5 +171,40 @@ fn a_script_ends_behind_64_mib(rt: HostRuntime) -> Result<(), Fail> {
         played.host.said.as_slice(),
         b"line 1: bad line\n".as_slice()
     );
+    Ok(())
+}
+
+// Whether a reply of a lane at a place has this text.
+fn says(alloc: Global, lane: u8, place: u64, reply: &Said, text: &str) -> Result<bool, Fail>
+    requires { CanBeSaid reply.now }
+{
+    let said = reply_text(alloc, lane, place, reply)?;
+    Ok(said.as_slice() == text.as_bytes())
+}
+
+#[test]
+fn numbers_that_no_script_comes_to(rt: HostRuntime) -> Result<(), Fail> {
+    let alloc = rt.alloc();
+    assert!(rt; says(alloc, 0, 0, &Said::Gone { seq: 0 }, "0 0 gone 0")?);
+    let most = u64::MAX;
+    let last = Said::Rolled { number: most };
+    let text = "15 18446744073709551615 rolled 18446744073709551615";
+    assert!(rt; says(alloc, 15, most, &last, text)?);
+    Ok(())
+}
+
+#[test]
+fn refusals_that_no_script_meets(rt: HostRuntime) -> Result<(), Fail> {
+    let alloc = rt.alloc();
+    let why = Refusal::NoTicket { asked: 2, now: 3 };
+    let text = "0 4 refused no-ticket 2 3";
+    assert!(rt; says(alloc, 0, 4, &Said::Refused { why }, text)?);
+    let why = Refusal::FileFull {
+        used: 14,
+        needed: 1,
+        max: 16,
+    };
+    let text = "0 4 refused full 14 1 16";
+    assert!(rt; says(alloc, 0, 4, &Said::Refused { why }, text)?);
     Ok(())
 }
