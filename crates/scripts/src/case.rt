@@ -72,10 +72,10 @@ impl Case {
         };
         let mut wrong = String::new(self.alloc);
         if self.by != By::Plain {
-            compare(&mut wrong, "play", &self.played()?, &wanted)?;
+            compare(&mut wrong, "play", &self.by_play()?, &wanted)?;
         }
         if self.by != By::Play {
-            compare(&mut wrong, "plain", &self.plain()?, &wanted)?;
+            compare(&mut wrong, "plain", &self.by_plain()?, &wanted)?;
         }
         Ok(wrong)
     }
@@ -83,16 +83,16 @@ impl Case {
     fn wanted(&self) -> Result<String, Fail> {
         match &self.said {
             Some(said) => Ok(said.clone()?),
-            None => Ok(self.plain()?.said),
+            None => Ok(self.by_plain()?.said),
         }
     }
 
-    fn plain(&self) -> Result<Ended, Fail> {
+    fn by_plain(&self) -> Result<Ended, Fail> {
         plain_run(self.alloc, self.seq, self.script.as_str())
     }
 
-    // The run by `play` over a new store in memory.
-    fn played(&self) -> Result<Ended, Fail> {
+    // A run by `play` over a new store in memory.
+    fn by_play(&self) -> Result<Ended, Fail> {
         let mut source = MemorySource::new(self.script.as_bytes().to_vec(self.alloc)?);
         let host = MemoryHost::formatted(self.alloc)?;
         ended_by(

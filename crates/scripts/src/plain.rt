@@ -10,14 +10,6 @@ use std::alloc::Global;
 use std::str;
 use std::test::Fail;
 
-/// The plain session, and what it has said.
-#[derive(Drop)]
-struct Plain {
-    alloc: Global,
-    session: PlainSession,
-    said: String,
-}
-
 // A refusal that has a text.
 fn refused(why: Refusal) -> Option<Said>
     ensures { IfSome result CanBeSaid }
@@ -55,6 +47,7 @@ fn oracle_from(alloc: Global, seq: u64) -> Result<Oracle, Fail> {
     Ok(oracle)
 }
 
+// Says what is told.
 fn say(alloc: Global, said: &mut String, told: Told) -> Result<(), Fail> {
     let answer = with_text(told.said).ok_or("no text")?;
     let text = reply_text(alloc, told.lane, told.place, &answer)?;
@@ -63,61 +56,40 @@ fn say(alloc: Global, said: &mut String, told: Told) -> Result<(), Fail> {
     Ok(())
 }
 
-impl Plain {
-    fn new(alloc: Global, seq: u64) -> Result<Plain, Fail> {
-        Ok(Plain {
-            alloc,
-            session: PlainSession::new(alloc, oracle_from(alloc, seq)?)?,
-            said: String::new(alloc),
-        })
+fn tell(session: &mut PlainSession, line: Line) -> Result<Told, Fail> {
+    if line.lane >= 16 {
+        return Err(Fail::new("no lane"));
     }
+    Ok(session.tell(line)?.ok_or("nothing is told")?)
+}
 
-    fn tell(&mut self, line: Line) -> Result<(), Fail> {
-        if line.lane >= 16 {
-            return Err(Fail::new("no lane"));
-        }
-        let told = self.session.tell(line)?.ok_or("nothing is told")?;
-        say(self.alloc, &mut self.said, told)
+// Runs the lines of a script up to the first bad one, and gives the status.
+fn run_lines(
+    alloc: Global,
+    session: &mut PlainSession,
+    script: &str,
+    said: &mut String,
+) -> Result<u8, Fail> {
+    let mut number: u64 = 0;
+    for text in script.split('\n') {
+        number = number.saturating_add(1);
+        let Some(line) = line_of(alloc, text.as_bytes(), false)? else {
+            write!(said, "line {number}: bad line\n")?;
+            return Ok(3);
+        };
+        say(alloc, said, tell(session, line)?)?;
     }
-
-    // Runs a text, and answers whether it was a line.
-    fn run(&mut self, text: &str) -> Result<bool, Fail> {
-        match line_of(self.alloc, text.as_bytes(), false)? {
-            Some(line) => {
-                self.tell(line)?;
-                Ok(true)
-            }
-            None => Ok(false),
-        }
-    }
-
-    // Runs the lines of a script up to the first bad one, and gives the status.
-    fn run_all(&mut self, script: &str) -> Result<u8, Fail> {
-        if script.is_empty() {
-            return Ok(0);
-        }
-        let mut number: u64 = 0;
-        for text in script.strip_suffix('\n').unwrap_or(script).split('\n') {
-            number = number.saturating_add(1);
-            if !self.run(text)? {
-                write!(self.said, "line {number}: bad line\n")?;
-                return Ok(3);
-            }
-        }
-        Ok(0)
-    }
-
-    fn ended(self, status: u8) -> Ended {
-        Ended {
-            status,
-            said: self.said,
-        }
-    }
+    Ok(0)
 }
 
 /// Runs a script by the plain session, over a new store whose `default` has drawn this number last.
 pub(crate) fn plain_run(alloc: Global, seq: u64, script: &str) -> Result<Ended, Fail> {
-    let mut plain = Plain::new(alloc, seq)?;
-    let status = plain.run_all(script)?;
-    Ok(plain.ended(status))
+    let mut session = PlainSession::new(alloc, oracle_from(alloc, seq)?)?;
+    let mut said = String::new(alloc);
+    let lines = script.strip_suffix('\n').unwrap_or(script);
+    let status = match script.is_empty() {
+        true => 0,
+        false => run_lines(alloc, &mut session, lines, &mut said)?,
+    };
+    Ok(Ended { status, said })
 }

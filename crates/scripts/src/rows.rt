@@ -34,7 +34,7 @@ impl Rows {
         self.file = String::from_str(self.alloc, file)?;
         for row in text.split('\n') {
             let (word, rest) = row.split_once(' ').unwrap_or((row, ""));
-            self.unfold(word, rest)?;
+            self.take(word, unfolded(self.alloc, rest)?.as_str())?;
         }
         match self.case {
             None => Ok(()),
@@ -48,11 +48,6 @@ impl Rows {
             return Err(Fail::new("there is no case"));
         }
         Ok(self.failed.as_str())
-    }
-
-    fn unfold(&mut self, word: &str, rest: &str) -> Result<(), Fail> {
-        let text = unfolded(self.alloc, rest)?;
-        self.take(word, text.as_str())
     }
 
     fn take(&mut self, word: &str, text: &str) -> Result<(), Fail> {
@@ -77,7 +72,7 @@ impl Rows {
             return Ok(());
         }
         let file = self.file.as_str();
-        write!(self.failed, "{file}: {title}{wrong}\n")
+        write!(self.failed, "{file}: {title}:{wrong}\n")
     }
 
     fn spell(&mut self, word: &str, text: &str) -> Result<(), Fail> {

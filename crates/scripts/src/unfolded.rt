@@ -1,4 +1,4 @@
-use std::alloc::{AllocError, Global};
+use std::alloc::Global;
 use std::test::Fail;
 
 /// What is written by a letter behind a backslash.
@@ -36,14 +36,9 @@ fn unfold(whole: &mut String, piece: &str) -> Result<(), Fail> {
     }
     let (count, rest) = piece.split_once('*').ok_or("a backslash without `*`")?;
     let (text, rest) = rest.split_once(';').ok_or("a backslash without `;`")?;
-    repeat(whole, text, count.parse()?)?;
-    whole.push_str(rest)?;
-    Ok(())
-}
-
-fn repeat(whole: &mut String, text: &str, count: u32) -> Result<(), AllocError> {
-    for _ in 0..count {
+    for _ in 0..count.parse::<u32>()? {
         whole.push_str(text)?;
     }
+    whole.push_str(rest)?;
     Ok(())
 }
