@@ -11,10 +11,10 @@ use std::sync::atomic::{AtomicUsize, Ordering};
 use std::test::Fail;
 
 fn words(alloc: Global) -> Result<Vec<String>, AllocError> {
-    vec![in alloc;
+    Ok(vec![in alloc;
         String::from_str(alloc, "play")?,
         String::from_str(alloc, "--memory")?,
-    ]
+    ]?)
 }
 
 fn run_from<S: Source>(
