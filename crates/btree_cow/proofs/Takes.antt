@@ -230,9 +230,6 @@ pub root_stored : (old new : Shelf) (leaf : Bool) (content slice : List Entry) (
 root_stored old new leaf content slice block same added =
     record { nodes = 1; left = inr (inr (block, refl, subst (λ (l : List Entry). NodeAt new block leaf l) same (added_node leaf slice old new block added), refl)); used = added.adds.one_more }
 
-pub takes_none : (root : Option ℕ) (chunk : ℕ) (s : Shelf) → root ≡ None → Takes root chunk s s None
-takes_none root chunk s is = subst (λ (o : Option ℕ). Takes o chunk s s None) (sym is) (refl, refl)
-
 pub takes_absent : (root : Option ℕ) (at chunk : ℕ) (old new : Shelf) (shrunk : Shrunk) → root ≡ Some at → shrunk ≡ Absent → Taken 9 at chunk old new shrunk → Takes root chunk old new (Some at)
 takes_absent root at chunk old new shrunk is gone t =
     subst (λ (o : Option ℕ). Takes o chunk old new (Some at)) (sym is)
