@@ -26,7 +26,6 @@ enum By {
 #[derive(Drop)]
 pub(crate) struct Case {
     alloc: Global,
-    pub(crate) title: String,
     words: Vec<String>,
     by: By,
     // the last number that the store `default` has drawn before the script
@@ -37,10 +36,9 @@ pub(crate) struct Case {
 }
 
 impl Case {
-    pub(crate) fn new(alloc: Global, title: &str) -> Result<Case, Fail> {
+    pub(crate) fn new(alloc: Global) -> Result<Case, Fail> {
         Ok(Case {
             alloc,
-            title: String::from_str(alloc, title)?,
             words: words_of(alloc, "play|--memory")?,
             by: By::Both,
             seq: 0,

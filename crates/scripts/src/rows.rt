@@ -9,6 +9,8 @@ use std::test::Fail;
 pub(crate) struct Rows {
     alloc: Global,
     file: String,
+    /// The title of the last case, or the text spelled last as it stands in the row.
+    title: String,
     /// The case that isn't ended.
     case: Option<Case>,
     /// The text that was spelled last.
@@ -22,6 +24,7 @@ impl Rows {
         Rows {
             alloc,
             file: String::new(alloc),
+            title: String::new(alloc),
             case: None,
             spelled: String::new(alloc),
             ran: 0,
@@ -34,6 +37,7 @@ impl Rows {
         self.file = String::from_str(self.alloc, file)?;
         for row in text.split('\n') {
             let (word, rest) = row.split_once(' ').unwrap_or((row, ""));
+            self.entitle(word, rest)?;
             self.take(word, unfolded(self.alloc, rest)?.as_str())?;
         }
         match self.case {
@@ -50,12 +54,19 @@ impl Rows {
         Ok(self.failed.as_str())
     }
 
+    fn entitle(&mut self, word: &str, rest: &str) -> Result<(), AllocError> {
+        if let "case" | "line" | "play" | "server" | "bad" = word {
+            self.title = String::from_str(self.alloc, rest)?;
+        }
+        Ok(())
+    }
+
     fn take(&mut self, word: &str, text: &str) -> Result<(), Fail> {
         match word {
             "" | "#" => Ok(()),
             "line" | "play" | "server" | "bad" => self.spell(word, text),
             "as" => self.read_as(text),
-            "case" => self.begin(text),
+            "case" => self.begin(),
             "status" => self.end(text.parse()?),
             _ => self
                 .case
@@ -66,37 +77,38 @@ impl Rows {
     }
 
     // Notes that a case was run, and how it failed.
-    fn note(&mut self, title: &str, is_right: bool, wrong: &str) -> Result<(), AllocError> {
+    fn note(&mut self, is_right: bool, wrong: &str) -> Result<(), AllocError> {
         self.ran = self.ran.saturating_add(1);
         if is_right {
             return Ok(());
         }
         let file = self.file.as_str();
+        let title = self.title.as_str();
         write!(self.failed, "{file}: {title}:{wrong}\n")
     }
 
     fn spell(&mut self, word: &str, text: &str) -> Result<(), Fail> {
         self.spelled = String::from_str(self.alloc, text)?;
         let is_right = is_spelled(self.alloc, word, text)?;
-        Ok(self.note(text, is_right, " is spelled otherwise")?)
+        Ok(self.note(is_right, " is spelled otherwise")?)
     }
 
     fn read_as(&mut self, wanted: &str) -> Result<(), Fail> {
         let is_right = is_read_as(self.alloc, self.spelled.as_str(), wanted)?;
-        Ok(self.note(wanted, is_right, " isn't what is read")?)
+        Ok(self.note(is_right, " is read otherwise")?)
     }
 
-    fn begin(&mut self, title: &str) -> Result<(), Fail> {
+    fn begin(&mut self) -> Result<(), Fail> {
         if self.case.is_some() {
             return Err(Fail::new("a case has no status"));
         }
-        self.case = Some(Case::new(self.alloc, title)?);
+        self.case = Some(Case::new(self.alloc)?);
         Ok(())
     }
 
     fn end(&mut self, status: u8) -> Result<(), Fail> {
         let case = self.case.take().ok_or("a status of no case")?;
         let wrong = case.wrong(status)?;
-        Ok(self.note(case.title.as_str(), wrong.is_empty(), wrong.as_str())?)
+        Ok(self.note(wrong.is_empty(), wrong.as_str())?)
     }
 }
