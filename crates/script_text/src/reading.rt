@@ -17,7 +17,7 @@ fn read(alloc: Global, text: &[u8], server: bool) -> Result<Line, Unread>
 
 /// The line that a text without its newline is, in a script for the server or for play, and `None`
 /// exactly where it is none. The only refusal is `NoMemory`, and it comes only of a text that begins with a lane
-/// and with a verb that takes memory: for a text word that stands for bytes, or for an item of a batch.
+/// and with a verb that takes memory: for a word in a text's place, unless it is `-`, or for an item of a batch.
 pub fn line_of(alloc: Global, text: &[u8], server: bool) -> Result<Option<Line>, Refusal>
     ensures found { IfOk result (λ found. IfSome found (λ line. IsLine server line text.now)) }
     ensures none { IfOk result (λ found. IfNone found ((line : Line) → ¬ (IsLine server line text.now))) }
