@@ -1,1 +1,4 @@
+mod Added
+mod Again
+mod Fronts
 mod Read

@@ -1,9 +1,9 @@
-ghost use Rattle.std.specs.Prelude.{IfOk, IsTrue};
+ghost use Rattle.std.specs.Prelude.{◌≡◌, IfOk, IsTrue, length};
 ghost use Rattle.forest_model.specs.Records.{is_record};
 
 use super::*;
 use block_host::{Block, Host, View, seal};
-use btree_cow::{Docs, find};
+use btree_cow::{Docs, find, insert};
 use doc_stream::Tail;
 use forest_model::{Bytes, Rec, Refusal};
 use host_memory::MemoryHost;
@@ -70,5 +70,44 @@ fn nodes_and_records_are_read_by_a_view(rt: HostRuntime) -> Result<(), Fail> {
         crate::docs::find_by_view(rt.alloc(), &mut view, &tail, 1, Some(1), 5),
         Ok(Some(50))
     );
+    Ok(())
+}
+
+// Puts chunks into a tree in the empty file 1, in which there is room for three blocks. The host refuses the third append
+// once: what is there stays, and the next one is done. Answers whether each call answers what it should.
+fn grown<H: Host>(alloc: Global, host: &mut H, view: &mut H::View, tail: &Tail) -> [bool; 8]
+    requires { IsTrue H.tells → length ((H.disk host.old).files 1) ≡ 0 }
+{
+    let room = Room {
+        blocks: 0,
+        most: 3,
+        max: 3,
+        torn: false,
+    };
+    let full = Refusal::FileFull {
+        used: 3,
+        needed: 1,
+        max: 3,
+    };
+    let mut pages = FileAppender::new(alloc, host, view, tail, 1, room);
+    [
+        insert(&mut pages, None, 5, 50) == Ok(0),
+        insert(&mut pages, Some(0), 6, 60) == Ok(1),
+        find(&mut pages, Some(1), 6) == Ok(Some(60)),
+        insert(&mut pages, Some(1), 7, 70) == Err(Refusal::DiskFault),
+        find(&mut pages, Some(1), 5) == Ok(Some(50)),
+        insert(&mut pages, Some(1), 7, 70) == Ok(2),
+        find(&mut pages, Some(2), 7) == Ok(Some(70)),
+        insert(&mut pages, Some(2), 8, 80) == Err(full),
+    ]
+}
+
+#[test]
+fn nodes_are_added_through_a_host(rt: HostRuntime) -> Result<(), Fail> {
+    let mut host = MemoryHost::empty(rt.alloc())?;
+    host.fail_calls(&[7], &[], &[])?;
+    let mut view = host.view(1)?;
+    let tail = Tail::new(rt.alloc(), 0)?;
+    assert_eq!(rt; grown(rt.alloc(), &mut host, &mut view, &tail), [true; 8]);
     Ok(())
 }
