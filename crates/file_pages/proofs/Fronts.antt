@@ -1,12 +1,12 @@
 -- The first blocks of a file, while others behind them come and go.
-use Rattle.std.proofs.Common.{◌≡◌, ℕ, zero, suc, ◌+◌, ◌<◌, ◌≤◌, List, [], ◌∷◌, length, take, refl, sym, ap, ◌∙◌, subst, inl, inr, arith, le_refl, length-take-le, take-take}
+use Rattle.std.proofs.Common.{◌≡◌, ◌≢◌, ℕ, zero, suc, ◌+◌, ◌<◌, ◌≤◌, List, [], ◌∷◌, length, take, refl, sym, ap, ◌∙◌, subst, inl, inr, arith, le_refl, length-take-le, take-take}
 use Rattle.std.specs.Prelude.{Bool, true, false, IsTrue, Some, Option, unwrap_or, slice_get}
 use Rattle.block_host.specs.Calls.{block_at, Changes, Cut, Written}
 use Rattle.block_host.specs.Disk.{Disk, not_told, risen}
 use Rattle.block_host.specs.Sealed.{zero_block}
 use Rattle.block_host.specs.declared.block.Block.{Block}
 use Rattle.btree_cow.specs.Meanings.{meaning_lies_below}
-use Rattle.file_pages.specs.Files.{told, NoPage, KeepsFront, short_front}
+use Rattle.file_pages.specs.Files.{told, NoPage, short_front}
 
 -- ---- blocks of the front
 
@@ -25,6 +25,13 @@ past_front t file n at kind xs le page is =
     omega (arith, le, meaning_lies_below file (told t (take n xs)) at (record { kind = kind; page = page }) is, short_front t n xs)
 
 -- ---- a front that stays
+
+-- the first so many blocks of a file stay, and so do the other files and what was said
+pub record KeepsFront (file blocks : ℕ) (old new : Disk) : Type 0 where
+  pub within : blocks ≤ length (new.files file)
+  pub front : take blocks (new.files file) ≡ take blocks (old.files file)
+  pub others : (other : ℕ) → other ≢ file → new.files other ≡ old.files other
+  pub said : new.said ≡ old.said
 
 same_front : (n : ℕ) (xs ys : List Block) → n ≤ length xs → n ≤ length ys → ((i : ℕ) → i < n → slice_get ys i ≡ slice_get xs i) → take n ys ≡ take n xs
 same_front zero xs ys le long same = refl

@@ -1,8 +1,7 @@
 -- A file that is read through a view, and one to which nodes are added through a host.
 use Rattle.std.proofs.Common.{suc-le-suc, zero-le, lt_of_lt_of_le}
-use Rattle.std.specs.Prelude.{◌≡◌, ◌≢◌, ◌≤◌, ℕ, zero, suc, Bool, true, false, List, [], ◌∷◌, ◌++◌, length, take, MatchOption, Option, Some}
+use Rattle.std.specs.Prelude.{◌≡◌, ◌≤◌, ℕ, zero, suc, Bool, true, false, List, [], ◌∷◌, ◌++◌, length, take, MatchOption, Option, Some}
 use Rattle.block_host.specs.declared.block.Block.{Block}
-use Rattle.block_host.specs.Disk.{Disk}
 use Rattle.doc_stream.specs.OpenBlock.{OpenBlock}
 use Rattle.node_page.specs.declared.page.Page.{Page}
 use Rattle.btree_cow.specs.Meanings.{meaning_lies_below}
@@ -66,18 +65,6 @@ pub host_lies_below : (lender : ℕ × ℕ) (file : ℕ) (tells : Bool) (blocks 
     → LieBelow (host_shelf lender file (told tells (take used blocks)) seen tail used most max)
 host_lies_below lender file tells blocks seen tail used most max at stored is =
     lt_of_lt_of_le (meaning_lies_below file (told tells (take used blocks)) at stored is) (short_front tells used blocks)
-
--- a file has so many blocks, and others behind them only where a failed append may have left them
-pub record IsFront (torn : Bool) (blocks : ℕ) (content : List Block) : Type 0 where
-  pub within : blocks ≤ length content
-  pub whole : torn ≡ false → length content ≡ blocks
-
--- the first so many blocks of a file stay, and so do the other files and what was said
-pub record KeepsFront (file blocks : ℕ) (old new : Disk) : Type 0 where
-  pub within : blocks ≤ length (new.files file)
-  pub front : take blocks (new.files file) ≡ take blocks (old.files file)
-  pub others : (other : ℕ) → other ≢ file → new.files other ≡ old.files other
-  pub said : new.said ≡ old.said
 
 -- nodes and stems stand behind the first so many blocks that a file had, up to a number
 pub record IsGrown (file blocks upto : ℕ) (before after : List Block) : Type 0 where

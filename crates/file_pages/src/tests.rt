@@ -111,3 +111,31 @@ fn nodes_are_added_through_a_host(rt: HostRuntime) -> Result<(), Fail> {
     assert_eq!(rt; grown(rt.alloc(), &mut host, &mut view, &tail), [true; 8]);
     Ok(())
 }
+
+#[test]
+fn a_node_is_added_to_what_is_lent(rt: HostRuntime) -> Result<(), Fail> {
+    let mut host = MemoryHost::empty(rt.alloc())?;
+    let mut view = host.view(1)?;
+    let tail = Tail::new(rt.alloc(), 0)?;
+    let room = Room {
+        blocks: 0,
+        most: 1,
+        max: 1,
+        torn: false,
+    };
+    assert_eq!(rt;
+        crate::appender::insert_by_host(
+            rt.alloc(),
+            &mut host,
+            &mut view,
+            &tail,
+            1,
+            room,
+            None,
+            5,
+            50
+        ),
+        Ok(0)
+    );
+    Ok(())
+}

@@ -1,9 +1,9 @@
 use Rattle.std.proofs.Common.{◌≡◌, ◌+◌, ◌≤◌, List, [], ◌∷◌, ◌++◌, length, take, ℕ, IsTrue, refl, sym, ap, ◌∙◌, rules, le_of_eq, take_all, length-append, length-take-le}
 use Rattle.block_host.specs.declared.block.Block.{Block}
 use Rattle.block_host.specs.Disk.{risen}
-use Rattle.file_pages.specs.Files.{told, KeepsFront}
+use Rattle.file_pages.specs.Files.{told}
 use Rattle.file_pages.proofs.Added.{adds_block, refused_by_host}
-use Rattle.file_pages.proofs.Fronts.{keeps_all, keeps_by_append, keeps_by_cut, keeps_on}
+use Rattle.file_pages.proofs.Fronts.{KeepsFront, keeps_all, keeps_by_append, keeps_by_cut, keeps_on}
 use Rattle.file_pages.proofs.Read.{told_same}
 use Rattle.file_pages.proofs.appender.FileAppenderAppender.add.Goals as goal
 use Rattle.file_pages.proofs.appender.FileAppenderAppender.add.Goals.{then-self+in-Ok, else-self}
