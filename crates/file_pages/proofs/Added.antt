@@ -1,5 +1,5 @@
 -- A block that is added behind the first ones of a file.
-use Rattle.std.proofs.Common.{◌≡◌, ◌⊎◌, ℕ, ◌+◌, ◌-◌, ◌≤◌, List, [], ◌∷◌, ◌++◌, length, take, replicate, refl, sym, ap, ap₂, ◌∙◌, subst, inr, arith, le_refl, append-nil, length-append, length-take-le, take_all}
+use Rattle.std.proofs.Common.{◌≡◌, ◌⊎◌, ℕ, ◌+◌, ◌-◌, ◌≤◌, List, [], ◌∷◌, ◌++◌, length, take, replicate, refl, sym, ap, ap₂, ◌∙◌, subst, inr, arith, length-append, length-take-le, take_all}
 use Rattle.std.specs.Prelude.{Bool, IsTrue, Some, slice_get}
 use Rattle.std.proofs.lemmas.List.{take_at}
 use Rattle.block_host.specs.Disk.{risen}
@@ -10,7 +10,7 @@ use Rattle.node_page.specs.Pages.{IsPage}
 use Rattle.node_page.specs.declared.page.Page.{Page}
 use Rattle.forest_model.specs.declared.refusal.Refusal.TheVariants as Refusal
 use Rattle.btree_cow.specs.Causes.{AddFails}
-use Rattle.btree_cow.specs.Shelf.{Shelf, Stored, Adds, Later, SealsPage, stored_in}
+use Rattle.btree_cow.specs.Shelf.{Stored, Adds, Later, SealsPage, stored_in}
 use Rattle.file_pages.specs.Files.{told, host_shelf}
 use Rattle.file_pages.proofs.Fronts.{risen_first}
 use Rattle.file_pages.proofs.Read.{told_is}
@@ -83,23 +83,10 @@ adds_block lender again file t old new seen tail at most max kind page block sta
     (subst (λ (c : List Block). Adds kind page at (host_shelf lender file c seen tail at most max) (host_shelf lender file (take at old ++ block ∷ []) seen tail (at + 1) most max)) (sym (told_is t (take at old) tells))
     (subst (λ (n : ℕ). Adds kind page n (host_shelf lender file (take at old) seen tail n most max) (host_shelf lender file (take at old ++ block ∷ []) seen tail (n + 1) most max)) long one)))
 
-later_same : (s : Shelf) → Later s s
-later_same s = record {
-  lender = refl;
-  file = refl;
-  content = record { more = []; behind = sym (append-nil s.content); nodes = tt };
-  blocks = λ at stored is. is;
-  seen = refl;
-  tail = refl;
-  used = le_refl s.used;
-  most = refl;
-  max = refl;
-}
-
 -- a host that failed, whose file has its first blocks as before
 pub refused_by_host : (lender again : ℕ × ℕ) (file : ℕ) (a b seen : List Block) (tail : OpenBlock) (used most max before after others : ℕ) → again ≡ lender → b ≡ a → risen before ≤ after
     → AddFails (host_shelf lender file a seen tail used most max) (host_shelf again file b seen tail used most max) (before + others) (after + others) Refusal.DiskFault
 refused_by_host lender again file a b seen tail used most max before after others named same rose =
     let still : host_shelf again file b seen tail used most max ≡ host_shelf lender file a seen tail used most max =
     ap₂ (λ (l : ℕ × ℕ) (c : List Block). host_shelf l file c seen tail used most max) named same in
-    inr (refl, risen_first before after others rose, subst (λ (s : Shelf). Later (host_shelf lender file a seen tail used most max) s) (sym still) (later_same (host_shelf lender file a seen tail used most max)))
+    (inr (refl, risen_first before after others rose), still)
