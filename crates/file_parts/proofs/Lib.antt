@@ -1,3 +1,4 @@
 pub mod Lookups
 pub mod Finds
 pub mod Puts
+pub mod Keeping

@@ -1,5 +1,8 @@
 -- What an open file has in memory, the host and the view aside.
 use Rattle.std.specs.Prelude.{ℕ, Option}
+use Rattle.block_host.specs.declared.fresh.Fresh as Fresh
+use Rattle.block_host.specs.declared.host.Host as Host
+use Rattle.block_host.specs.declared.view.View as View
 use Rattle.doc_stream.specs.OpenBlock.{OpenBlock}
 use Rattle.forest_model.specs.declared.call.Limits.{Limits}
 use Rattle.forest_model.specs.declared.refusal.Refusal.{Refusal}
@@ -30,7 +33,7 @@ pub record Held : Type 0 where
   pub stopped : Option ℕ
   pub left : Option Refusal
 
-abbrev pub held : {H V F : Type 0} → Parts H V F → Held
+abbrev pub held : {H V F : Type 0} {h : Host.Ghosts H V F} {v : View.Ghosts V} {f : Fresh.Ghosts F} → Parts H V F h v f → Held
 held p = record {
   revision = p.revision;
   generation = p.generation;

@@ -3,3 +3,4 @@ pub mod Moment
 pub mod Lookup
 pub mod Causes
 pub mod Records
+pub mod Keeping

@@ -1,3 +1,5 @@
+ghost use Rattle.std.specs.Prelude.{◌≤◌, IsTrue};
+
 use block_host::Host;
 use doc_stream::Tail;
 use forest_model::{Header, Limits, Refusal, Roots};
@@ -48,4 +50,8 @@ pub struct Parts<H: Host> {
     pub damaged: Option<(u64, u64)>,
     /// Why a flush that was due was left.
     pub left: Option<Refusal>,
+    /// Where the host tells its content, so do its views.
+    pub ghost views_tell: { IsTrue H.tells → IsTrue H.View.tells },
+    /// The host has failed no less often than at opening.
+    pub ghost opened_below: { opened ≤ H.faults host },
 }

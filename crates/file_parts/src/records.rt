@@ -1,8 +1,9 @@
-ghost use Rattle.std.specs.Prelude.{◌≡◌, ◌≢◌, ◌≤◌, ◌<◌, ◌+◌, ◌^◌, length, IsTrue, Some, Err, IfOk, IfErr, OnOk, OnErr};
+ghost use Rattle.std.specs.Prelude.{◌≡◌, ◌≤◌, ◌<◌, ◌+◌, ◌^◌, length, IsTrue, Err, IfOk, IfErr, OnOk, OnErr};
 ghost use Rattle.doc_stream.specs.OpenBlock.{address_of};
 ghost use Rattle.forest_model.specs.Records.{is_record, record_bytes};
 ghost use Rattle.file_parts.specs.Held.{held};
-ghost use Rattle.file_parts.specs.Moment.{Aside, moment_of};
+ghost use Rattle.file_parts.specs.Moment.{moment};
+ghost use Rattle.file_parts.specs.Keeping.{Keeps, Outside};
 ghost use Rattle.file_parts.specs.Records.{PutsRecord, NotPut};
 ghost use Rattle.forest_model.specs.declared.refusal.Refusal.TheVariants as Refusal;
 
@@ -47,21 +48,10 @@ pub fn append<H: Host>(
     requires len { len ≡ length (record_bytes rec.now) }
     requires small { len ≤ 2 ^ 21 }
     ensures address { IfOk result (λ address. address ≡ address_of parts.old.tail.number (length parts.old.tail.bytes)) }
-    ensures puts { OnOk result (PutsRecord H.tells rec.now
-        (moment_of (H.disk parts.old.host) (H.View.content parts.old.view) (H.faults parts.old.host) (H.View.faults parts.old.view) parts.old)
-        (moment_of (H.disk parts.new.host) (H.View.content parts.new.view) (H.faults parts.new.host) (H.View.faults parts.new.view) parts.new)) }
+    ensures puts { OnOk result (PutsRecord H.tells rec.now (moment parts.old) (moment parts.new)) }
     ensures rest { OnOk result (held parts.new ≡ record (held parts.old) { tail = parts.new.tail }) }
-    ensures refused { IfErr result (NotPut
-        (moment_of (H.disk parts.old.host) (H.View.content parts.old.view) (H.faults parts.old.host) (H.View.faults parts.old.view) parts.old)
-        (moment_of (H.disk parts.new.host) (H.View.content parts.new.view) (H.faults parts.new.host) (H.View.faults parts.new.view) parts.new)) }
-    ensures aside { IsTrue H.tells → Aside parts.old.revision (H.disk parts.old.host) (H.disk parts.new.host) }
-    ensures halts { result ≡ Err Refusal.DiskFault → parts.new.stopped ≡ Some (H.faults parts.new.host) }
-    ensures clock { (H.disk parts.old.host).moment ≤ (H.disk parts.new.host).moment }
-    ensures counts { H.faults parts.old.host ≤ H.faults parts.new.host }
-    ensures untroubled { result ≢ Err Refusal.DiskFault → H.faults parts.new.host ≡ H.faults parts.old.host }
-    ensures view_count { H.View.faults parts.new.view ≡ H.View.faults parts.old.view }
-    ensures opened { parts.new.opened ≡ parts.old.opened }
-    ensures damaged { parts.new.damaged ≡ parts.old.damaged }
+    ensures refused { IfErr result (NotPut (moment parts.old) (moment parts.new)) }
+    ensures keeps { Keeps H.tells (moment parts.old) (moment parts.new) result }
 {
     if parts.tail.number() > MOST_BLOCKS {
         return Err(Refusal::FileFull {
@@ -84,10 +74,7 @@ pub fn advance<H: Host>(parts: &mut Parts<H>)
       loose = length parts.old.tail.bytes;
       place = parts.old.place + 1;
     } }
-    ensures host { parts.new.host ≡ parts.old.host }
-    ensures view { parts.new.view ≡ parts.old.view }
-    ensures opened { parts.new.opened ≡ parts.old.opened }
-    ensures damaged { parts.new.damaged ≡ parts.old.damaged }
+    ensures outside { Outside parts.old parts.new }
 {
     parts.blocks = parts.tail.number();
     parts.loose = parts.tail.address() % 4096;

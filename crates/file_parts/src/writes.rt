@@ -3,7 +3,8 @@ ghost use Rattle.block_host.specs.Disk.{risen};
 ghost use Rattle.forest_model.specs.Limits.{is_worn};
 ghost use Rattle.forest_model.specs.declared.refusal.Refusal.TheVariants as Refusal;
 ghost use Rattle.file_parts.specs.Held.{held};
-ghost use Rattle.file_parts.specs.Moment.{Aside};
+ghost use Rattle.file_parts.specs.Moment.{Aside, moment};
+ghost use Rattle.file_parts.specs.Keeping.{Begins, Keeps};
 
 use crate::Parts;
 use block_host::{Block, Failed, Host};
@@ -55,15 +56,8 @@ pub fn grow_or_stop<H: Host>(parts: &mut Parts<H>, blocks: &[Block]) -> Result<(
     ensures files { IsTrue H.tells → OnOk result ((H.disk parts.new.host).files parts.old.revision ≡ (H.disk parts.old.host).files parts.old.revision ++ blocks.now) }
     ensures shown { IsTrue H.tells → OnOk result (H.View.content parts.old.view ≡ (H.disk parts.old.host).files parts.old.revision → H.View.content parts.new.view ≡ (H.disk parts.new.host).files parts.old.revision) }
     ensures kept { OnOk result (held parts.new ≡ held parts.old) }
-    ensures stops { OnErr result (held parts.new ≡ record (held parts.old) { stopped = Some (H.faults parts.new.host) }) }
-    ensures failed { OnErr result ((result ≡ Err Refusal.DiskFault) × (risen (H.faults parts.old.host) ≤ H.faults parts.new.host)) }
-    ensures aside { IsTrue H.tells → Aside parts.old.revision (H.disk parts.old.host) (H.disk parts.new.host) }
-    ensures clock { (H.disk parts.old.host).moment ≤ (H.disk parts.new.host).moment }
-    ensures counts { H.faults parts.old.host ≤ H.faults parts.new.host }
-    ensures untroubled { OnOk result (H.faults parts.new.host ≡ H.faults parts.old.host) }
-    ensures view_count { H.View.faults parts.new.view ≡ H.View.faults parts.old.view }
-    ensures opened { parts.new.opened ≡ parts.old.opened }
-    ensures damaged { parts.new.damaged ≡ parts.old.damaged }
+    ensures stops { OnErr result ((result ≡ Err Refusal.DiskFault) × (held parts.new ≡ record (held parts.old) { stopped = Some (H.faults parts.new.host) })) }
+    ensures keeps { Keeps H.tells (moment parts.old) (moment parts.new) result }
 {
     match grow(&mut parts.host, &mut parts.view, parts.revision, blocks) {
         Ok(()) => Ok(()),
@@ -84,7 +78,9 @@ fn grow<H: Host>(
 ) -> Result<(), Failed>
     ensures files { IsTrue H.tells → OnOk result ((H.disk host.new).files file ≡ (H.disk host.old).files file ++ blocks.now) }
     ensures shown { IsTrue H.tells → OnOk result (H.View.content view.old ≡ (H.disk host.old).files file → H.View.content view.new ≡ (H.disk host.new).files file) }
+    ensures kept { IsTrue H.tells → OnErr result (H.View.content view.new ≡ H.View.content view.old) }
     ensures aside { IsTrue H.tells → Aside file (H.disk host.old) (H.disk host.new) }
+    ensures front { IsTrue H.tells → Begins ((H.disk host.old).files file) ((H.disk host.new).files file) }
     ensures failed { OnErr result (risen (H.faults host.old) ≤ H.faults host.new) }
     ensures clock { (H.disk host.old).moment ≤ (H.disk host.new).moment }
     ensures counts { H.faults host.old ≤ H.faults host.new }
@@ -94,6 +90,19 @@ fn grow<H: Host>(
     if blocks.is_empty() {
         return Ok(());
     }
-    host.append(file, blocks)?;
+    put_at_end(host, file, blocks)?;
     host.renew(file, view)
+}
+
+// Puts blocks at the end of a file. What was there stays, also where the host fails.
+fn put_at_end<H: Host>(host: &mut H, file: u64, blocks: &[Block]) -> Result<(), Failed>
+    ensures files { IsTrue H.tells → OnOk result ((H.disk host.new).files file ≡ (H.disk host.old).files file ++ blocks.now) }
+    ensures aside { IsTrue H.tells → Aside file (H.disk host.old) (H.disk host.new) }
+    ensures front { IsTrue H.tells → Begins ((H.disk host.old).files file) ((H.disk host.new).files file) }
+    ensures failed { OnErr result (risen (H.faults host.old) ≤ H.faults host.new) }
+    ensures clock { (H.disk host.old).moment ≤ (H.disk host.new).moment }
+    ensures counts { H.faults host.old ≤ H.faults host.new }
+    ensures untroubled { OnOk result (H.faults host.new ≡ H.faults host.old) }
+{
+    host.append(file, blocks)
 }
