@@ -9,6 +9,7 @@ ghost use Rattle.kvs_names.specs.Table.{row_with_id, counted};
 ghost use Rattle.file_documents.specs.Batching.{item_record};
 ghost use Rattle.file_documents.specs.BatchPuts.{PutsAll, IsPut, documents_known, entry_put, known_after, known_from, live_known};
 ghost use Rattle.file_parts.specs.Held.{held};
+ghost use Rattle.file_parts.specs.Keeping.{Outside};
 
 use crate::deleting::len_of_living;
 use crate::items::{item_len, items_len};
@@ -278,10 +279,7 @@ pub(crate) fn enter_batch<H: Host>(
           live = known.live;
           place = parts.old.place + 1;
         } }
-    ensures host { parts.new.host ≡ parts.old.host }
-    ensures view { parts.new.view ≡ parts.old.view }
-    ensures opened { parts.new.opened ≡ parts.old.opened }
-    ensures damaged { parts.new.damaged ≡ parts.old.damaged }
+    ensures outside { Outside parts.old parts.new }
 {
     let count = enter_each(
         &mut parts.wal,

@@ -1,11 +1,12 @@
-ghost use Rattle.std.specs.Prelude.{◌≡◌, ◌≢◌, ◌≤◌, ◌<◌, ◌+◌, length, IsTrue, Some, None, Err, IfOk};
+ghost use Rattle.std.specs.Prelude.{◌≡◌, ◌≢◌, ◌≤◌, ◌<◌, ◌+◌, length, Some, None, Err, IfOk};
 ghost use Rattle.std.specs.Result.{result_err};
 ghost use Rattle.forest_model.specs.Step.{first_cause};
 ghost use Rattle.forest_model.specs.declared.refusal.Refusal.TheVariants as Refusal;
 ghost use Rattle.file_documents.specs.Batching.{batch_causes, BatchGives, BatchAnswers};
 ghost use Rattle.file_parts.specs.Held.{held};
 ghost use Rattle.file_parts.specs.Causes.{seq_in, documents_in};
-ghost use Rattle.file_parts.specs.Moment.{Aside, moment_of};
+ghost use Rattle.file_parts.specs.Moment.{moment};
+ghost use Rattle.file_parts.specs.Keeping.{Keeps};
 
 use crate::batch_puts::{Batched, Drawn, enter_batch, put_batch};
 use crate::items::{any_wrong_body, any_wrong_key, items_len, misses_one};
@@ -26,18 +27,8 @@ pub fn batch<H: Host>(
 ) -> Result<u64, Refusal>
     requires some { 1 ≤ length items.now }
     requires few { length items.now ≤ 1024 }
-    ensures answers { BatchAnswers H.tells at.now items.now
-        (moment_of (H.disk parts.old.host) (H.View.content parts.old.view) (H.faults parts.old.host) (H.View.faults parts.old.view) parts.old)
-        (moment_of (H.disk parts.new.host) (H.View.content parts.new.view) (H.faults parts.new.host) (H.View.faults parts.new.view) parts.new)
-        result }
-    ensures aside { IsTrue H.tells → Aside parts.old.revision (H.disk parts.old.host) (H.disk parts.new.host) }
-    ensures halts { result ≡ Err Refusal.DiskFault → parts.new.stopped ≡ Some (H.faults parts.new.host) }
-    ensures clock { (H.disk parts.old.host).moment ≤ (H.disk parts.new.host).moment }
-    ensures counts { H.faults parts.old.host ≤ H.faults parts.new.host }
-    ensures untroubled { result ≢ Err Refusal.DiskFault → H.faults parts.new.host ≡ H.faults parts.old.host }
-    ensures view_count { H.View.faults parts.new.view ≡ H.View.faults parts.old.view }
-    ensures opened { parts.new.opened ≡ parts.old.opened }
-    ensures damaged { parts.new.damaged ≡ parts.old.damaged }
+    ensures answers { BatchAnswers H.tells at.now items.now (moment parts.old) (moment parts.new) result }
+    ensures keeps { Keeps H.tells (moment parts.old) (moment parts.new) result }
 {
     let numbers = may_batch(parts, at, items)?;
     batch_free(alloc, parts, at, numbers, items)
@@ -97,18 +88,8 @@ fn batch_free<H: Host>(
     requires few { length items.now ≤ 1024 }
     requires seq { numbers.0 ≡ seq_in parts.old.names.rows at.now.store }
     requires documents { numbers.1 ≡ documents_in parts.old.names.rows at.now.store }
-    ensures gives { BatchGives H.tells at.now items.now
-        (moment_of (H.disk parts.old.host) (H.View.content parts.old.view) (H.faults parts.old.host) (H.View.faults parts.old.view) parts.old)
-        (moment_of (H.disk parts.new.host) (H.View.content parts.new.view) (H.faults parts.new.host) (H.View.faults parts.new.view) parts.new)
-        result }
-    ensures aside { IsTrue H.tells → Aside parts.old.revision (H.disk parts.old.host) (H.disk parts.new.host) }
-    ensures halts { result ≡ Err Refusal.DiskFault → parts.new.stopped ≡ Some (H.faults parts.new.host) }
-    ensures clock { (H.disk parts.old.host).moment ≤ (H.disk parts.new.host).moment }
-    ensures counts { H.faults parts.old.host ≤ H.faults parts.new.host }
-    ensures untroubled { result ≢ Err Refusal.DiskFault → H.faults parts.new.host ≡ H.faults parts.old.host }
-    ensures view_count { H.View.faults parts.new.view ≡ H.View.faults parts.old.view }
-    ensures opened { parts.new.opened ≡ parts.old.opened }
-    ensures damaged { parts.new.damaged ≡ parts.old.damaged }
+    ensures gives { BatchGives H.tells at.now items.now (moment parts.old) (moment parts.new) result }
+    ensures keeps { Keeps H.tells (moment parts.old) (moment parts.new) result }
 {
     let Batched { tail, out, pending } = put_batch(
         alloc,

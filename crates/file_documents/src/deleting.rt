@@ -1,4 +1,4 @@
-ghost use Rattle.std.specs.Prelude.{◌≡◌, ◌≢◌, ◌≤◌, ◌+◌, ◌-◌, ◌^◌, ◌<◌, length, IsTrue, true, is_some, Some, None, Ok, Err, IfOk};
+ghost use Rattle.std.specs.Prelude.{◌≡◌, ◌≢◌, ◌≤◌, ◌+◌, ◌-◌, ◌^◌, ◌<◌, length, true, is_some, Some, None, Ok, Err, IfOk};
 ghost use Rattle.std.specs.FinMap as finite;
 ghost use Rattle.forest_model.specs.Documents.{key_at};
 ghost use Rattle.forest_model.specs.Step.{first_cause};
@@ -9,7 +9,8 @@ ghost use Rattle.file_parts.specs.Held.{held};
 ghost use Rattle.file_parts.specs.Causes.{seq_in, documents_in};
 ghost use Rattle.file_documents.specs.Setting.{is_live, live_len};
 ghost use Rattle.file_documents.specs.Deleting.{delete_causes, DeleteGives, DeleteAnswers};
-ghost use Rattle.file_parts.specs.Moment.{Aside, moment_of};
+ghost use Rattle.file_parts.specs.Moment.{moment};
+ghost use Rattle.file_parts.specs.Keeping.{Keeps, Outside};
 
 use crate::setting::record_len;
 use block_host::Host;
@@ -27,18 +28,8 @@ pub fn delete<H: Host>(
     at: &StoreRef,
     key: &[u8],
 ) -> Result<u64, Refusal>
-    ensures answers { DeleteAnswers H.tells at.now key.now
-        (moment_of (H.disk parts.old.host) (H.View.content parts.old.view) (H.faults parts.old.host) (H.View.faults parts.old.view) parts.old)
-        (moment_of (H.disk parts.new.host) (H.View.content parts.new.view) (H.faults parts.new.host) (H.View.faults parts.new.view) parts.new)
-        result }
-    ensures aside { IsTrue H.tells → Aside parts.old.revision (H.disk parts.old.host) (H.disk parts.new.host) }
-    ensures halts { result ≡ Err Refusal.DiskFault → parts.new.stopped ≡ Some (H.faults parts.new.host) }
-    ensures clock { (H.disk parts.old.host).moment ≤ (H.disk parts.new.host).moment }
-    ensures counts { H.faults parts.old.host ≤ H.faults parts.new.host }
-    ensures untroubled { result ≢ Err Refusal.DiskFault → H.faults parts.new.host ≡ H.faults parts.old.host }
-    ensures view_count { H.View.faults parts.new.view ≡ H.View.faults parts.old.view }
-    ensures opened { parts.new.opened ≡ parts.old.opened }
-    ensures damaged { parts.new.damaged ≡ parts.old.damaged }
+    ensures answers { DeleteAnswers H.tells at.now key.now (moment parts.old) (moment parts.new) result }
+    ensures keeps { Keeps H.tells (moment parts.old) (moment parts.new) result }
 {
     let numbers = may_delete(parts, at, key)?;
     delete_free(alloc, parts, at, numbers, key)
@@ -98,18 +89,8 @@ fn delete_free<H: Host>(
     requires free { first_cause (delete_causes (held parts.old) at.now key.now) ≡ None }
     requires seq { numbers.0 ≡ seq_in parts.old.names.rows at.now.store }
     requires documents { numbers.1 ≡ documents_in parts.old.names.rows at.now.store }
-    ensures gives { DeleteGives H.tells at.now key.now
-        (moment_of (H.disk parts.old.host) (H.View.content parts.old.view) (H.faults parts.old.host) (H.View.faults parts.old.view) parts.old)
-        (moment_of (H.disk parts.new.host) (H.View.content parts.new.view) (H.faults parts.new.host) (H.View.faults parts.new.view) parts.new)
-        result }
-    ensures aside { IsTrue H.tells → Aside parts.old.revision (H.disk parts.old.host) (H.disk parts.new.host) }
-    ensures halts { result ≡ Err Refusal.DiskFault → parts.new.stopped ≡ Some (H.faults parts.new.host) }
-    ensures clock { (H.disk parts.old.host).moment ≤ (H.disk parts.new.host).moment }
-    ensures counts { H.faults parts.old.host ≤ H.faults parts.new.host }
-    ensures untroubled { result ≢ Err Refusal.DiskFault → H.faults parts.new.host ≡ H.faults parts.old.host }
-    ensures view_count { H.View.faults parts.new.view ≡ H.View.faults parts.old.view }
-    ensures opened { parts.new.opened ≡ parts.old.opened }
-    ensures damaged { parts.new.damaged ≡ parts.old.damaged }
+    ensures gives { DeleteGives H.tells at.now key.now (moment parts.old) (moment parts.new) result }
+    ensures keeps { Keeps H.tells (moment parts.old) (moment parts.new) result }
 {
     let seq = numbers.0 + 1;
     let len = record_len(key, &[], &[]);
@@ -146,10 +127,7 @@ fn enter_deletion<H: Host>(
       live = parts.old.live - live_len (finite.get parts.old.wal.entries (key_at store room));
       place = parts.old.place + 1;
     } }
-    ensures host { parts.new.host ≡ parts.old.host }
-    ensures view { parts.new.view ≡ parts.old.view }
-    ensures opened { parts.new.opened ≡ parts.old.opened }
-    ensures damaged { parts.new.damaged ≡ parts.old.damaged }
+    ensures outside { Outside parts.old parts.new }
 {
     let gone = len_of_living(parts.wal.put(store, room, entry));
     parts.live = parts.live.saturating_sub(gone);

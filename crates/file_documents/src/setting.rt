@@ -1,4 +1,4 @@
-ghost use Rattle.std.specs.Prelude.{◌≡◌, ◌≢◌, ◌≤◌, ◌<◌, ◌+◌, ◌^◌, length, IsTrue, true, false, is_some, Some, None, Ok, Err, IfOk};
+ghost use Rattle.std.specs.Prelude.{◌≡◌, ◌≢◌, ◌≤◌, ◌<◌, ◌+◌, ◌^◌, length, true, false, is_some, Some, None, Ok, Err, IfOk};
 ghost use Rattle.std.specs.FinMap as finite;
 ghost use Rattle.std.specs.Result.{result_err};
 ghost use Rattle.forest_model.specs.Documents.{key_at};
@@ -9,7 +9,8 @@ ghost use Rattle.kvs_names.specs.Table.{row_with_id, counted};
 ghost use Rattle.file_parts.specs.Held.{held};
 ghost use Rattle.file_parts.specs.Causes.{seq_in, documents_in};
 ghost use Rattle.file_documents.specs.Setting.{documents_after, live_after, set_causes, SetGives, SetAnswers};
-ghost use Rattle.file_parts.specs.Moment.{Aside, moment_of};
+ghost use Rattle.file_parts.specs.Moment.{moment};
+ghost use Rattle.file_parts.specs.Keeping.{Keeps, Outside};
 
 use block_host::Host;
 use file_parts::{Parts, advance, append, is_full, is_next_worn, is_wrong_key, record_of};
@@ -28,18 +29,8 @@ pub fn set<H: Host>(
     meta: &[u8],
     body: &[u8],
 ) -> Result<u64, Refusal>
-    ensures answers { SetAnswers H.tells at.now key.now meta.now body.now
-        (moment_of (H.disk parts.old.host) (H.View.content parts.old.view) (H.faults parts.old.host) (H.View.faults parts.old.view) parts.old)
-        (moment_of (H.disk parts.new.host) (H.View.content parts.new.view) (H.faults parts.new.host) (H.View.faults parts.new.view) parts.new)
-        result }
-    ensures aside { IsTrue H.tells → Aside parts.old.revision (H.disk parts.old.host) (H.disk parts.new.host) }
-    ensures halts { result ≡ Err Refusal.DiskFault → parts.new.stopped ≡ Some (H.faults parts.new.host) }
-    ensures clock { (H.disk parts.old.host).moment ≤ (H.disk parts.new.host).moment }
-    ensures counts { H.faults parts.old.host ≤ H.faults parts.new.host }
-    ensures untroubled { result ≢ Err Refusal.DiskFault → H.faults parts.new.host ≡ H.faults parts.old.host }
-    ensures view_count { H.View.faults parts.new.view ≡ H.View.faults parts.old.view }
-    ensures opened { parts.new.opened ≡ parts.old.opened }
-    ensures damaged { parts.new.damaged ≡ parts.old.damaged }
+    ensures answers { SetAnswers H.tells at.now key.now meta.now body.now (moment parts.old) (moment parts.new) result }
+    ensures keeps { Keeps H.tells (moment parts.old) (moment parts.new) result }
 {
     let numbers = may_set(parts, at, key, meta, body)?;
     set_free(alloc, parts, at, numbers, key, meta, body)
@@ -113,18 +104,8 @@ fn set_free<H: Host>(
     requires free { first_cause (set_causes (held parts.old) at.now key.now meta.now body.now) ≡ None }
     requires seq { numbers.0 ≡ seq_in parts.old.names.rows at.now.store }
     requires documents { numbers.1 ≡ documents_in parts.old.names.rows at.now.store }
-    ensures gives { SetGives H.tells at.now key.now meta.now body.now
-        (moment_of (H.disk parts.old.host) (H.View.content parts.old.view) (H.faults parts.old.host) (H.View.faults parts.old.view) parts.old)
-        (moment_of (H.disk parts.new.host) (H.View.content parts.new.view) (H.faults parts.new.host) (H.View.faults parts.new.view) parts.new)
-        result }
-    ensures aside { IsTrue H.tells → Aside parts.old.revision (H.disk parts.old.host) (H.disk parts.new.host) }
-    ensures halts { result ≡ Err Refusal.DiskFault → parts.new.stopped ≡ Some (H.faults parts.new.host) }
-    ensures clock { (H.disk parts.old.host).moment ≤ (H.disk parts.new.host).moment }
-    ensures counts { H.faults parts.old.host ≤ H.faults parts.new.host }
-    ensures untroubled { result ≢ Err Refusal.DiskFault → H.faults parts.new.host ≡ H.faults parts.old.host }
-    ensures view_count { H.View.faults parts.new.view ≡ H.View.faults parts.old.view }
-    ensures opened { parts.new.opened ≡ parts.old.opened }
-    ensures damaged { parts.new.damaged ≡ parts.old.damaged }
+    ensures gives { SetGives H.tells at.now key.now meta.now body.now (moment parts.old) (moment parts.new) result }
+    ensures keeps { Keeps H.tells (moment parts.old) (moment parts.new) result }
 {
     let seq = numbers.0 + 1;
     let len = record_len(key, meta, body);
@@ -155,10 +136,7 @@ fn enter<H: Host>(parts: &mut Parts<H>, store: u64, room: Room, entry: Entry, do
       live = live_after (finite.get parts.old.wal.entries (key_at store room)) parts.old.live entry.len;
       place = parts.old.place + 1;
     } }
-    ensures host { parts.new.host ≡ parts.old.host }
-    ensures view { parts.new.view ≡ parts.old.view }
-    ensures opened { parts.new.opened ≡ parts.old.opened }
-    ensures damaged { parts.new.damaged ≡ parts.old.damaged }
+    ensures outside { Outside parts.old parts.new }
 {
     let older = parts.wal.put(store, room, entry);
     parts.live = live_with(older, parts.live, entry.len);

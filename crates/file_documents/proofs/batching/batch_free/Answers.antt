@@ -2,7 +2,7 @@ use Rattle.std.proofs.Common.{rules, ◌≡◌, ◌≤◌, ◌+◌, [], length, 
 use Rattle.std.proofs.lemmas.List.{length-map}
 use Rattle.file_documents.specs.Batching.{item_key}
 use Rattle.file_documents.specs.BatchPuts.{room_of}
-use Rattle.file_parts.specs.Moment.{moment_of}
+use Rattle.file_parts.specs.Moment.{moment}
 use Rattle.file_documents.proofs.BatchDone.{batched}
 use Rattle.file_documents.proofs.BatchPut.{rooms_are}
 use Rattle.file_documents.proofs.batching.batch_free.Goals as goal
@@ -22,11 +22,11 @@ returns-clause-gives g c =
     let b = c.in_ok-tail.field-0 in (
       ap (λ n. n + length c.args.items.now) c.requires.seq,
       batched g.H.Host.tells c.args.at.now.store c.args.numbers.0 c.args.numbers.1 c.args.items.now b.pending.items
-          (moment_of (g.H.Host.disk c.args.parts.now.host) (g.H.View.View.content c.args.parts.now.view) (g.H.Host.faults c.args.parts.now.host) (g.H.View.View.faults c.args.parts.now.view) c.args.parts.now)
-          (moment_of (g.H.Host.disk c.grow_or_stop.new.parts.host) (g.H.View.View.content c.grow_or_stop.new.parts.view) (g.H.Host.faults c.grow_or_stop.new.parts.host) (g.H.View.View.faults c.grow_or_stop.new.parts.view) c.grow_or_stop.new.parts)
-          (moment_of (g.H.Host.disk c.enter_batch.new.parts.host) (g.H.View.View.content c.enter_batch.new.parts.view) (g.H.Host.faults c.enter_batch.new.parts.host) (g.H.View.View.faults c.enter_batch.new.parts.view) c.enter_batch.new.parts)
+          (moment c.args.parts.now)
+          (moment c.grow_or_stop.new.parts)
+          (moment c.enter_batch.new.parts)
           c.put_batch.new.wal b.tail b.out.items c.as_slice.result.now c.requires.seq c.requires.documents c.put_batch.ensures.entries c.in_ok-tail.ensures.put
-          c.in_ok-grow_or_stop.ensures.kept (ap g.H.Host.disk c.enter_batch.ensures.host) (ap g.H.View.View.content c.enter_batch.ensures.view)
+          c.in_ok-grow_or_stop.ensures.kept (ap g.H.Host.disk c.enter_batch.ensures.outside.host) (ap g.H.View.View.content c.enter_batch.ensures.outside.view)
           c.as_slice.ensures.value c.in_ok-grow_or_stop.ensures.files c.in_ok-grow_or_stop.ensures.shown
           c.enter_batch.ensures.entries c.enter_batch.ensures.rest,
     )

@@ -3,7 +3,7 @@ use Rattle.forest_model.specs.Documents.{key_at}
 use Rattle.forest_model.specs.declared.stored.Entry.{Entry}
 use Rattle.file_parts.specs.Held.{held}
 use Rattle.file_parts.specs.Causes.{seq_in}
-use Rattle.file_parts.specs.Moment.{moment_of}
+use Rattle.file_parts.specs.Moment.{moment}
 use Rattle.file_documents.specs.Setting.{put_of, set_doc, entry_of}
 use Rattle.file_documents.proofs.SetDone.{entered, next_record}
 use Rattle.file_documents.proofs.setting.set_free.Goals as goal
@@ -20,10 +20,10 @@ returns-clause-gives g c =
     (λ i. record { seq = c.requires.seq i + 1; address = c.in_ok-address.ensures.address i; live = true; len = c.record_len-len.ensures.value i }) in (
       ap (λ n. n + 1) c.requires.seq,
       entered g.H.Host.tells k d
-          (moment_of (g.H.Host.disk c.args.parts.now.host) (g.H.View.View.content c.args.parts.now.view) (g.H.Host.faults c.args.parts.now.host) (g.H.View.View.faults c.args.parts.now.view) c.args.parts.now)
-          (moment_of (g.H.Host.disk c.append.new.parts.host) (g.H.View.View.content c.append.new.parts.view) (g.H.Host.faults c.append.new.parts.host) (g.H.View.View.faults c.append.new.parts.view) c.append.new.parts)
-          (moment_of (g.H.Host.disk c.enter.new.parts.host) (g.H.View.View.content c.enter.new.parts.view) (g.H.Host.faults c.enter.new.parts.host) (g.H.View.View.faults c.enter.new.parts.view) c.enter.new.parts)
+          (moment c.args.parts.now)
+          (moment c.append.new.parts)
+          (moment c.enter.new.parts)
           c.room.new.self c.in_ok-room.room c.in_ok-rec.rec e c.args.numbers.1 c.room.ensures.entries c.in_ok-room.ensures.key rec_is (search rules) e_is c.requires.documents
-          c.in_ok-address.ensures.puts c.in_ok-address.ensures.rest (ap g.H.Host.disk c.enter.ensures.host) (ap g.H.View.View.content c.enter.ensures.view)
+          c.in_ok-address.ensures.puts c.in_ok-address.ensures.rest (ap g.H.Host.disk c.enter.ensures.outside.host) (ap g.H.View.View.content c.enter.ensures.outside.view)
           c.enter.ensures.entries c.enter.ensures.rest,
     )
