@@ -1,7 +1,8 @@
-ghost use Rattle.std.specs.Prelude.{◌≡◌, ◌≢◌, ◌≤◌, ◌<◌, ◌+◌, ◌^◌, not, length, IsTrue, true, None, Some, Err, IfNone, IfOk, OnOk};
+ghost use Rattle.std.specs.Prelude.{◌≡◌, ◌≢◌, ◌<◌, ◌+◌, ◌^◌, not, length, true, None, Some, Err, IfNone, IfOk, OnOk};
 ghost use Rattle.std.specs.Result.{result_err};
 ghost use Rattle.file_parts.specs.Held.{held};
-ghost use Rattle.file_parts.specs.Moment.{Aside, moment_of};
+ghost use Rattle.file_parts.specs.Moment.{moment};
+ghost use Rattle.file_parts.specs.Keeping.{Keeps, Outside};
 ghost use Rattle.file_stores.specs.StoreChanges.{id_named, make_causes, open_causes, MakeGives, OpenAnswers};
 ghost use Rattle.forest_model.specs.Limits as limits;
 ghost use Rattle.forest_model.specs.Step.{◌where_holds◌, first_cause};
@@ -26,18 +27,8 @@ pub fn open_store<H: Host>(
     name: &[u8],
     read_only: bool,
 ) -> Result<StoreRef, Refusal>
-    ensures answers { OpenAnswers H.tells name.now read_only
-        (moment_of (H.disk parts.old.host) (H.View.content parts.old.view) (H.faults parts.old.host) (H.View.faults parts.old.view) parts.old)
-        (moment_of (H.disk parts.new.host) (H.View.content parts.new.view) (H.faults parts.new.host) (H.View.faults parts.new.view) parts.new)
-        result }
-    ensures aside { IsTrue H.tells → Aside parts.old.revision (H.disk parts.old.host) (H.disk parts.new.host) }
-    ensures halts { result ≡ Err Refusal.DiskFault → parts.new.stopped ≡ Some (H.faults parts.new.host) }
-    ensures clock { (H.disk parts.old.host).moment ≤ (H.disk parts.new.host).moment }
-    ensures counts { H.faults parts.old.host ≤ H.faults parts.new.host }
-    ensures untroubled { result ≢ Err Refusal.DiskFault → H.faults parts.new.host ≡ H.faults parts.old.host }
-    ensures view_count { H.View.faults parts.new.view ≡ H.View.faults parts.old.view }
-    ensures opened { parts.new.opened ≡ parts.old.opened }
-    ensures damaged { parts.new.damaged ≡ parts.old.damaged }
+    ensures answers { OpenAnswers H.tells name.now read_only (moment parts.old) (moment parts.new) result }
+    ensures keeps { Keeps H.tells (moment parts.old) (moment parts.new) result }
 {
     if let Some(store) = may_open(parts, name, read_only)? {
         return Ok(StoreRef { store, read_only });
@@ -109,18 +100,8 @@ fn make<H: Host>(alloc: Global, parts: &mut Parts<H>, name: &[u8]) -> Result<u64
     requires absent { id_named parts.old.names name.now ≡ None }
     requires free { first_cause (create_causes parts.old.names name.now) ≡ None }
     requires place { parts.old.place + 1 < 2 ^ 62 }
-    ensures gives { MakeGives H.tells name.now
-        (moment_of (H.disk parts.old.host) (H.View.content parts.old.view) (H.faults parts.old.host) (H.View.faults parts.old.view) parts.old)
-        (moment_of (H.disk parts.new.host) (H.View.content parts.new.view) (H.faults parts.new.host) (H.View.faults parts.new.view) parts.new)
-        result }
-    ensures aside { IsTrue H.tells → Aside parts.old.revision (H.disk parts.old.host) (H.disk parts.new.host) }
-    ensures halts { result ≡ Err Refusal.DiskFault → parts.new.stopped ≡ Some (H.faults parts.new.host) }
-    ensures clock { (H.disk parts.old.host).moment ≤ (H.disk parts.new.host).moment }
-    ensures counts { H.faults parts.old.host ≤ H.faults parts.new.host }
-    ensures untroubled { result ≢ Err Refusal.DiskFault → H.faults parts.new.host ≡ H.faults parts.old.host }
-    ensures view_count { H.View.faults parts.new.view ≡ H.View.faults parts.old.view }
-    ensures opened { parts.new.opened ≡ parts.old.opened }
-    ensures damaged { parts.new.damaged ≡ parts.old.damaged }
+    ensures gives { MakeGives H.tells name.now (moment parts.old) (moment parts.new) result }
+    ensures keeps { Keeps H.tells (moment parts.old) (moment parts.new) result }
 {
     let id = parts.names.next();
     let rec = record_of(alloc, 3, id, 0, name, &[], &[])?;
@@ -140,10 +121,7 @@ fn enter<H: Host>(parts: &mut Parts<H>, name: &[u8])
       loose = length parts.old.tail.bytes;
       place = parts.old.place + 1;
     } }
-    ensures host { parts.new.host ≡ parts.old.host }
-    ensures view { parts.new.view ≡ parts.old.view }
-    ensures opened { parts.new.opened ≡ parts.old.opened }
-    ensures damaged { parts.new.damaged ≡ parts.old.damaged }
+    ensures outside { Outside parts.old parts.new }
 {
     create(&mut parts.names, name);
     advance(parts);

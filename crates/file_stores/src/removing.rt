@@ -1,8 +1,9 @@
-ghost use Rattle.std.specs.Prelude.{◌≡◌, ◌≢◌, ◌≤◌, ◌<◌, ◌+◌, ◌-◌, ◌^◌, ◌==◌, not, length, IsTrue, true, None, Some, Err, IfOk, OnOk};
+ghost use Rattle.std.specs.Prelude.{◌≡◌, ◌≢◌, ◌<◌, ◌+◌, ◌-◌, ◌^◌, ◌==◌, not, length, true, None, Some, Err, IfOk, OnOk};
 ghost use Rattle.std.specs.FinMap as finite;
 ghost use Rattle.std.specs.Result.{result_err};
 ghost use Rattle.file_parts.specs.Held.{held};
-ghost use Rattle.file_parts.specs.Moment.{Aside, moment_of};
+ghost use Rattle.file_parts.specs.Moment.{moment};
+ghost use Rattle.file_parts.specs.Keeping.{Keeps, Outside};
 ghost use Rattle.file_stores.specs.StoreChanges.{id_named, remove_causes, UnmakeGives, RemoveAnswers};
 ghost use Rattle.forest_model.specs.Step.{first_cause};
 ghost use Rattle.forest_model.specs.declared.refusal.Refusal.TheVariants as Refusal;
@@ -24,18 +25,8 @@ pub fn remove_store<H: Host>(
     at: &StoreRef,
     name: &[u8],
 ) -> Result<u64, Refusal>
-    ensures answers { RemoveAnswers H.tells at.now name.now
-        (moment_of (H.disk parts.old.host) (H.View.content parts.old.view) (H.faults parts.old.host) (H.View.faults parts.old.view) parts.old)
-        (moment_of (H.disk parts.new.host) (H.View.content parts.new.view) (H.faults parts.new.host) (H.View.faults parts.new.view) parts.new)
-        result }
-    ensures aside { IsTrue H.tells → Aside parts.old.revision (H.disk parts.old.host) (H.disk parts.new.host) }
-    ensures halts { result ≡ Err Refusal.DiskFault → parts.new.stopped ≡ Some (H.faults parts.new.host) }
-    ensures clock { (H.disk parts.old.host).moment ≤ (H.disk parts.new.host).moment }
-    ensures counts { H.faults parts.old.host ≤ H.faults parts.new.host }
-    ensures untroubled { result ≢ Err Refusal.DiskFault → H.faults parts.new.host ≡ H.faults parts.old.host }
-    ensures view_count { H.View.faults parts.new.view ≡ H.View.faults parts.old.view }
-    ensures opened { parts.new.opened ≡ parts.old.opened }
-    ensures damaged { parts.new.damaged ≡ parts.old.damaged }
+    ensures answers { RemoveAnswers H.tells at.now name.now (moment parts.old) (moment parts.new) result }
+    ensures keeps { Keeps H.tells (moment parts.old) (moment parts.new) result }
 {
     let id = may_remove(parts, at, name)?;
     unmake(alloc, parts, id)
@@ -75,18 +66,8 @@ fn may_remove<H: Host>(parts: &Parts<H>, at: &StoreRef, name: &[u8]) -> Result<u
 // Removes a store where nothing is against it.
 fn unmake<H: Host>(alloc: Global, parts: &mut Parts<H>, id: u64) -> Result<u64, Refusal>
     requires place { parts.old.place + 1 < 2 ^ 62 }
-    ensures gives { UnmakeGives H.tells id
-        (moment_of (H.disk parts.old.host) (H.View.content parts.old.view) (H.faults parts.old.host) (H.View.faults parts.old.view) parts.old)
-        (moment_of (H.disk parts.new.host) (H.View.content parts.new.view) (H.faults parts.new.host) (H.View.faults parts.new.view) parts.new)
-        result }
-    ensures aside { IsTrue H.tells → Aside parts.old.revision (H.disk parts.old.host) (H.disk parts.new.host) }
-    ensures halts { result ≡ Err Refusal.DiskFault → parts.new.stopped ≡ Some (H.faults parts.new.host) }
-    ensures clock { (H.disk parts.old.host).moment ≤ (H.disk parts.new.host).moment }
-    ensures counts { H.faults parts.old.host ≤ H.faults parts.new.host }
-    ensures untroubled { result ≢ Err Refusal.DiskFault → H.faults parts.new.host ≡ H.faults parts.old.host }
-    ensures view_count { H.View.faults parts.new.view ≡ H.View.faults parts.old.view }
-    ensures opened { parts.new.opened ≡ parts.old.opened }
-    ensures damaged { parts.new.damaged ≡ parts.old.damaged }
+    ensures gives { UnmakeGives H.tells id (moment parts.old) (moment parts.new) result }
+    ensures keeps { Keeps H.tells (moment parts.old) (moment parts.new) result }
 {
     let live = parts.wal.live_of(id);
     let rec = record_of(alloc, 4, id, 0, &[], &[], &[])?;
@@ -110,10 +91,7 @@ fn forget<H: Host>(parts: &mut Parts<H>, id: u64, live: u64)
       live = parts.old.live - live;
       place = parts.old.place + 1;
     } }
-    ensures host { parts.new.host ≡ parts.old.host }
-    ensures view { parts.new.view ≡ parts.old.view }
-    ensures opened { parts.new.opened ≡ parts.old.opened }
-    ensures damaged { parts.new.damaged ≡ parts.old.damaged }
+    ensures outside { Outside parts.old parts.new }
 {
     parts.wal.gone(id);
     let _removed = parts.names.remove(id);
