@@ -46,6 +46,10 @@ pub record UpdatesAs {T : Type 0} (told : Bool) (reply : T → Reply) (s : State
       ⊎ ((why ≡ Refusal.NoMemory) × StandsAt told new s × IsFile told new.held new.file f)
       ⊎ ((why ≡ Refusal.DiskFault) × Troubled old new))
 
+-- so it does from each state and file for which the open file stands
+abbrev pub Updates : {T : Type 0} → Bool → (T → Reply) → Call → Moment → Moment → Result T Refusal → Type 0
+Updates told reply call old new result = (s : State) (f : File) → StandsAt told old s → IsFile told old.held old.file f → UpdatesAs told reply s f call old new result
+
 -- A commit is the same, but memory is never refused.
 pub record CommitsAs (told : Bool) (s : State) (f : File) (at : StoreRef) (old new : Moment) (result : Result ℕ Refusal) : Type 0 where
   pub done : IfOk result (λ number. ((step_of s f (calls.Commit at)).0 ≡ Committed number) × StandsAt told new (step_of s f (calls.Commit at)).1
@@ -53,3 +57,6 @@ pub record CommitsAs (told : Bool) (s : State) (f : File) (at : StoreRef) (old n
   pub refused : (why : Refusal) → (step_of s f (calls.Commit at)).0 ≡ Refused why → result ≡ Err why
   pub reason : IfErr result (λ why. (((step_of s f (calls.Commit at)).0 ≡ Refused why) × StandsAt told new s × IsFile told new.held new.file f)
       ⊎ ((why ≡ Refusal.DiskFault) × Troubled old new))
+
+abbrev pub Commits : Bool → StoreRef → Moment → Moment → Result ℕ Refusal → Type 0
+Commits told at old new result = (s : State) (f : File) → StandsAt told old s → IsFile told old.held old.file f → CommitsAs told s f at old new result

@@ -4,6 +4,7 @@ ghost use Rattle.file_core.specs.Reads.{ReadsFrom, read_leaves, read_notes, refu
 ghost use Rattle.file_core.specs.Stands.{Stands};
 ghost use Rattle.file_parts.specs.Held.{held};
 ghost use Rattle.file_parts.specs.Lookup.{FindsRecord, IsNumbered};
+ghost use Rattle.file_parts.specs.Keeping.{StaysStopped};
 ghost use Rattle.forest_model.specs.Step.{step_with_room};
 ghost use Rattle.forest_model.specs.declared.call.Call.TheVariants as Call;
 ghost use Rattle.forest_model.specs.declared.call.Reply.TheVariants as Reply;
@@ -25,7 +26,7 @@ impl<H: Host> FileState<H> {
         ensures reads { ReadsFrom H.tells (held self.old.parts) (H.disk self.old.parts.host)
             (H.View.content self.old.parts.view) (H.View.faults self.old.parts.view) (H.View.faults self.new.parts.view)
             (Call.Get at.now key.now) result }
-        ensures stopped { (faults : ℕ) → self.old.parts.stopped ≡ Some faults → result ≡ Err (Refusal.Stopped faults) }
+        ensures stopped { StaysStopped self.old.parts self.new.parts result }
         ensures damaged { (block : ℕ) → result ≡ Err (Refusal.Damaged self.old.parts.revision block) → IsTrue H.tells
             → (e : Entry) × (entry_at self.old.parts.wal.entries at.now.store key.now ≡ Some e)
             × BreaksRecord self.old.parts.revision (H.View.content self.old.parts.view) self.old.parts.tail e.address block }
@@ -48,7 +49,7 @@ impl<H: Host> FileState<H> {
         ensures reads { ReadsFrom H.tells (held self.old.parts) (H.disk self.old.parts.host)
             (H.View.content self.old.parts.view) (H.View.faults self.old.parts.view) (H.View.faults self.new.parts.view)
             (Call.BySeq at.now seq) result }
-        ensures stopped { (faults : ℕ) → self.old.parts.stopped ≡ Some faults → result ≡ Err (Refusal.Stopped faults) }
+        ensures stopped { StaysStopped self.old.parts self.new.parts result }
         ensures damaged { (block : ℕ) → result ≡ Err (Refusal.Damaged self.old.parts.revision block) → IsTrue H.tells
             → (key : List ℕ) × (e : Entry) × IsNumbered self.old.parts.wal.entries at.now.store seq key e
             × BreaksRecord self.old.parts.revision (H.View.content self.old.parts.view) self.old.parts.tail e.address block }
@@ -120,7 +121,7 @@ impl<H: Host> FileState<H> {
         ensures refused { (s : State)
             → Stands H.tells (held self.old.parts) (H.disk self.old.parts.host) (H.View.content self.old.parts.view) s
             → IfErr result (λ why. step_with_room s (Call.Info at.now) ≡ (Reply.Refused why, s)) }
-        ensures stopped { (faults : ℕ) → self.old.parts.stopped ≡ Some faults → result ≡ Err (Refusal.Stopped faults) }
+        ensures stopped { StaysStopped self.old.parts self.new.parts result }
         ensures held { held self.new.parts ≡ held self.old.parts }
         ensures host { self.new.parts.host ≡ self.old.parts.host }
         ensures view { self.new.parts.view ≡ self.old.parts.view }
