@@ -6,3 +6,4 @@ pub mod NothingNew
 pub mod Grown
 pub mod CommitStands
 pub mod Commits
+pub mod Fronts

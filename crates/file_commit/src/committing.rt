@@ -1,11 +1,9 @@
-ghost use Rattle.std.specs.Prelude.{◌≡◌, ◌+◌, ◌^◌, ◌≤◌, ◌||◌, ◌⊎◌, [], ℕ, IsTrue, Some, Err, OnOk, false, ◌≢◌};
+ghost use Rattle.std.specs.Prelude.{◌≡◌, ◌+◌, ◌^◌, ◌≤◌, ◌||◌, ◌⊎◌, [], IsTrue, OnOk, false};
 ghost use Rattle.block_host.specs.Order.{IsSettled};
-ghost use Rattle.forest_model.specs.Blocks.{File};
-ghost use Rattle.forest_model.specs.declared.refusal.Refusal.TheVariants as Refusal;
-ghost use Rattle.forest_model.specs.declared.state.State.{State};
 ghost use Rattle.file_parts.specs.Held.{held};
-ghost use Rattle.file_core.specs.Updates.{StandsAt, IsFile, CommitsAs};
-ghost use Rattle.file_parts.specs.Moment.{Aside, moment_of};
+ghost use Rattle.file_core.specs.Updates.{Commits};
+ghost use Rattle.file_parts.specs.Moment.{moment};
+ghost use Rattle.file_parts.specs.Keeping.{Keeps, Outside, StaysStopped};
 ghost use Rattle.file_commit.specs.Committing.{is_commit_worn, is_far, CommitAnswers, CommitGives};
 
 use crate::disk::put_commit;
@@ -28,23 +26,10 @@ const MOST_BLOCKS: u64 = 1 << 40;
 /// what reads give. Refused are a file that has stopped, a reference for reading and a worn number, in this order; then a
 /// host that fails, which stops the file. It takes no memory, and is never refused for want of room.
 pub fn commit<H: Host>(file: &mut FileState<H>, at: &StoreRef) -> Result<u64, Refusal>
-    ensures commits { (s : State) (f : File)
-        → StandsAt H.tells (moment_of (H.disk file.old.parts.host) (H.View.content file.old.parts.view) (H.faults file.old.parts.host) (H.View.faults file.old.parts.view) file.old.parts) s
-        → IsFile H.tells (held file.old.parts) (H.View.content file.old.parts.view) f
-        → CommitsAs H.tells s f at.now
-        (moment_of (H.disk file.old.parts.host) (H.View.content file.old.parts.view) (H.faults file.old.parts.host) (H.View.faults file.old.parts.view) file.old.parts)
-        (moment_of (H.disk file.new.parts.host) (H.View.content file.new.parts.view) (H.faults file.new.parts.host) (H.View.faults file.new.parts.view) file.new.parts)
-        result }
-    ensures stopped { (faults : ℕ) → file.old.parts.stopped ≡ Some faults → result ≡ Err (Refusal.Stopped faults) }
+    ensures commits { Commits H.tells at.now (moment file.old.parts) (moment file.new.parts) result }
+    ensures stopped { StaysStopped file.old.parts file.new.parts result }
     ensures settled { IsTrue H.tells → OnOk result ((file.new.parts.place ≡ file.old.parts.place) ⊎ IsSettled file.old.parts.revision (H.disk file.new.parts.host)) }
-    ensures aside { IsTrue H.tells → Aside file.old.parts.revision (H.disk file.old.parts.host) (H.disk file.new.parts.host) }
-    ensures view_count { H.View.faults file.new.parts.view ≡ H.View.faults file.old.parts.view }
-    ensures clock { (H.disk file.old.parts.host).moment ≤ (H.disk file.new.parts.host).moment }
-    ensures counts { H.faults file.old.parts.host ≤ H.faults file.new.parts.host }
-    ensures untroubled { result ≢ Err Refusal.DiskFault → H.faults file.new.parts.host ≡ H.faults file.old.parts.host }
-    ensures halts { result ≡ Err Refusal.DiskFault → file.new.parts.stopped ≡ Some (H.faults file.new.parts.host) }
-    ensures opened { file.new.parts.opened ≡ file.old.parts.opened }
-    ensures damaged { file.new.parts.damaged ≡ file.old.parts.damaged }
+    ensures keeps { Keeps H.tells (moment file.old.parts) (moment file.new.parts) result }
 {
     rules();
     nothing_new();
@@ -58,19 +43,9 @@ pub fn commit<H: Host>(file: &mut FileState<H>, at: &StoreRef) -> Result<u64, Re
 
 // Commits in a file that hasn't stopped.
 fn commit_in<H: Host>(parts: &mut Parts<H>, at: &StoreRef) -> Result<u64, Refusal>
-    ensures answers { CommitAnswers H.tells at.now
-        (moment_of (H.disk parts.old.host) (H.View.content parts.old.view) (H.faults parts.old.host) (H.View.faults parts.old.view) parts.old)
-        (moment_of (H.disk parts.new.host) (H.View.content parts.new.view) (H.faults parts.new.host) (H.View.faults parts.new.view) parts.new)
-        result }
+    ensures answers { CommitAnswers H.tells at.now (moment parts.old) (moment parts.new) result }
     ensures settled { IsTrue H.tells → OnOk result ((parts.new.place ≡ parts.old.place) ⊎ IsSettled parts.old.revision (H.disk parts.new.host)) }
-    ensures aside { IsTrue H.tells → Aside parts.old.revision (H.disk parts.old.host) (H.disk parts.new.host) }
-    ensures view_count { H.View.faults parts.new.view ≡ H.View.faults parts.old.view }
-    ensures clock { (H.disk parts.old.host).moment ≤ (H.disk parts.new.host).moment }
-    ensures counts { H.faults parts.old.host ≤ H.faults parts.new.host }
-    ensures untroubled { result ≢ Err Refusal.DiskFault → H.faults parts.new.host ≡ H.faults parts.old.host }
-    ensures halts { result ≡ Err Refusal.DiskFault → parts.new.stopped ≡ Some (H.faults parts.new.host) }
-    ensures opened { parts.new.opened ≡ parts.old.opened }
-    ensures damaged { parts.new.damaged ≡ parts.old.damaged }
+    ensures keeps { Keeps H.tells (moment parts.old) (moment parts.new) result }
 {
     if at.read_only {
         return Err(Refusal::ReadOnly);
@@ -100,19 +75,9 @@ fn commit_new<H: Host>(parts: &mut Parts<H>, stores: Stores) -> Result<u64, Refu
     requires numbers { is_commit_worn (held parts.old) ≡ false }
     requires near { is_far (held parts.old) ≡ false }
     requires stores { stores ≡ parts.old.names.rows }
-    ensures gives { CommitGives H.tells
-        (moment_of (H.disk parts.old.host) (H.View.content parts.old.view) (H.faults parts.old.host) (H.View.faults parts.old.view) parts.old)
-        (moment_of (H.disk parts.new.host) (H.View.content parts.new.view) (H.faults parts.new.host) (H.View.faults parts.new.view) parts.new)
-        result }
+    ensures gives { CommitGives H.tells (moment parts.old) (moment parts.new) result }
     ensures settled { IsTrue H.tells → OnOk result ((parts.new.place ≡ parts.old.place) ⊎ IsSettled parts.old.revision (H.disk parts.new.host)) }
-    ensures aside { IsTrue H.tells → Aside parts.old.revision (H.disk parts.old.host) (H.disk parts.new.host) }
-    ensures view_count { H.View.faults parts.new.view ≡ H.View.faults parts.old.view }
-    ensures clock { (H.disk parts.old.host).moment ≤ (H.disk parts.new.host).moment }
-    ensures counts { H.faults parts.old.host ≤ H.faults parts.new.host }
-    ensures untroubled { result ≢ Err Refusal.DiskFault → H.faults parts.new.host ≡ H.faults parts.old.host }
-    ensures halts { result ≡ Err Refusal.DiskFault → parts.new.stopped ≡ Some (H.faults parts.new.host) }
-    ensures opened { parts.new.opened ≡ parts.old.opened }
-    ensures damaged { parts.new.damaged ≡ parts.old.damaged }
+    ensures keeps { Keeps H.tells (moment parts.old) (moment parts.new) result }
 {
     let header = next_header(parts, stores);
     let number = header.commit;
@@ -150,10 +115,7 @@ fn enter<H: Host>(parts: &mut Parts<H>, header: Header, at: u64)
       place = parts.old.place + 1;
       next_commit = parts.old.next_commit + 1;
     } }
-    ensures host { parts.new.host ≡ parts.old.host }
-    ensures view { parts.new.view ≡ parts.old.view }
-    ensures opened { parts.new.opened ≡ parts.old.opened }
-    ensures damaged { parts.new.damaged ≡ parts.old.damaged }
+    ensures outside { Outside parts.old parts.new }
 {
     parts.header = header;
     parts.header_at = at;

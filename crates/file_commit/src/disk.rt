@@ -1,6 +1,7 @@
 ghost use Rattle.std.specs.Prelude.{◌≡◌, ◌≤◌, ◌++◌, ◌∷◌, [], IsTrue, OnOk, OnErr};
 ghost use Rattle.block_host.specs.Disk.{risen};
 ghost use Rattle.block_host.specs.Order.{IsSettled};
+ghost use Rattle.file_parts.specs.Keeping.{Begins};
 ghost use Rattle.file_parts.specs.Moment.{Aside};
 ghost use Rattle.file_commit.specs.Committing.{listed};
 
@@ -17,8 +18,10 @@ pub(crate) fn put_commit<H: Host>(
 ) -> Result<(), Failed>
     ensures files { IsTrue H.tells → OnOk result ((H.disk host.new).files file ≡ (H.disk host.old).files file ++ listed block ++ header.now ∷ []) }
     ensures shown { IsTrue H.tells → OnOk result (H.View.content view.new ≡ (H.disk host.new).files file) }
+    ensures kept { IsTrue H.tells → OnErr result (H.View.content view.new ≡ H.View.content view.old) }
     ensures settled { IsTrue H.tells → OnOk result (IsSettled file (H.disk host.new)) }
     ensures aside { IsTrue H.tells → Aside file (H.disk host.old) (H.disk host.new) }
+    ensures front { IsTrue H.tells → Begins ((H.disk host.old).files file) ((H.disk host.new).files file) }
     ensures failed { OnErr result (risen (H.faults host.old) ≤ H.faults host.new) }
     ensures clock { (H.disk host.old).moment ≤ (H.disk host.new).moment }
     ensures counts { H.faults host.old ≤ H.faults host.new }
@@ -35,6 +38,7 @@ fn put_open_block<H: Host>(host: &mut H, file: u64, block: Option<Block>) -> Res
     ensures files { IsTrue H.tells → OnOk result ((H.disk host.new).files file ≡ (H.disk host.old).files file ++ listed block) }
     ensures settled { IsTrue H.tells → OnOk result (IsSettled file (H.disk host.new)) }
     ensures aside { IsTrue H.tells → Aside file (H.disk host.old) (H.disk host.new) }
+    ensures front { IsTrue H.tells → Begins ((H.disk host.old).files file) ((H.disk host.new).files file) }
     ensures failed { OnErr result (risen (H.faults host.old) ≤ H.faults host.new) }
     ensures clock { (H.disk host.old).moment ≤ (H.disk host.new).moment }
     ensures counts { H.faults host.old ≤ H.faults host.new }
@@ -51,6 +55,7 @@ fn put_header<H: Host>(host: &mut H, file: u64, header: &Block) -> Result<(), Fa
     ensures files { IsTrue H.tells → OnOk result ((H.disk host.new).files file ≡ (H.disk host.old).files file ++ header.now ∷ []) }
     ensures settled { IsTrue H.tells → OnOk result (IsSettled file (H.disk host.new)) }
     ensures aside { IsTrue H.tells → Aside file (H.disk host.old) (H.disk host.new) }
+    ensures front { IsTrue H.tells → Begins ((H.disk host.old).files file) ((H.disk host.new).files file) }
     ensures failed { OnErr result (risen (H.faults host.old) ≤ H.faults host.new) }
     ensures clock { (H.disk host.old).moment ≤ (H.disk host.new).moment }
     ensures counts { H.faults host.old ≤ H.faults host.new }

@@ -16,8 +16,8 @@ returns-in-Ok-clause-gives g c =
         open_block = opened c.args.parts.now.revision c.args.parts.now.tail c.pad-block.new.self c.pad-block.result c.pad-block.ensures;
         tells = tells_of c.next_header-header.result (header_after p) c.sealed_header-sealed.result.bytes c.next_header-header.ensures.header c.sealed_header-sealed.ensures;
         held = entered p (held c.enter.new.parts) c.next_header-header.result c.number-at.result _ c.enter.ensures.held c.next_header-header.ensures.header at_is;
-        files = λ t. ap (λ h. (g.H.Host.disk h).files c.args.parts.now.revision) c.enter.ensures.host ∙ c.in-Ok.ensures.files t;
-        shown = λ t. ap g.H.View.View.content c.enter.ensures.view ∙ c.in-Ok.ensures.shown t ∙ sym (ap (λ h. (g.H.Host.disk h).files c.args.parts.now.revision) c.enter.ensures.host);
+        files = λ t. ap (λ h. (g.H.Host.disk h).files c.args.parts.now.revision) c.enter.ensures.outside.host ∙ c.in-Ok.ensures.files t;
+        shown = λ t. ap g.H.View.View.content c.enter.ensures.outside.view ∙ c.in-Ok.ensures.shown t ∙ sym (ap (λ h. (g.H.Host.disk h).files c.args.parts.now.revision) c.enter.ensures.outside.host);
       },
     )
 
