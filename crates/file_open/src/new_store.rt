@@ -3,7 +3,7 @@ ghost use Rattle.block_host.specs.Calls.{Reads};
 ghost use Rattle.block_host.specs.Disk.{risen};
 ghost use Rattle.file_parts.specs.Held.{held};
 ghost use Rattle.file_core.specs.Updates.{StandsAt, IsFile};
-ghost use Rattle.file_parts.specs.Moment.{moment_of};
+ghost use Rattle.file_parts.specs.Moment.{moment};
 ghost use Rattle.file_image.specs.NewStore.{IsNewStore};
 ghost use Rattle.file_open.specs.Opened.{new_held};
 ghost use Rattle.forest_model.specs.Blocks.{File};
@@ -31,7 +31,7 @@ pub fn open_new<H: Host>(
 ) -> Result<FileState<H>, (Refusal, H)>
     requires limits { limits.max_blocks ≤ 2 ^ 32 }
     ensures stands { IfOk result (λ file. (IsTrue H.tells → IsNewStore (H.disk host).files)
-        → StandsAt H.tells (moment_of (H.disk file.parts.host) (H.View.content file.parts.view) (H.faults file.parts.host) (H.View.faults file.parts.view) file.parts) (new_state limits)) }
+        → StandsAt H.tells (moment file.parts) (new_state limits)) }
     ensures file { IfOk result (λ file. (IsTrue H.tells → IsNewStore (H.disk host).files)
         → (f : File) × IsFile H.tells (held file.parts) (H.View.content file.parts.view) f) }
     ensures held { IfOk result (λ file. held file.parts ≡ new_held limits) }
