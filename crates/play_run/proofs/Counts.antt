@@ -2,6 +2,9 @@
 use Rattle.std.proofs.Common.{◌≡◌, ℕ, ◌<◌, ◌≤◌, sym, ap, subst, ◌∙◌, arith, inl, inr}
 use Rattle.std.specs.Prelude.{◌⊎◌}
 use Rattle.block_host.specs.Disk.{risen}
+use Rattle.block_host.specs.declared.fresh.Fresh as Fresh
+use Rattle.block_host.specs.declared.host.Host as Host
+use Rattle.block_host.specs.declared.view.View as View
 use Rattle.file_core.specs.declared.state.FileState.{FileState}
 use Rattle.play_run.specs.Progress.{Faults, FaultsAfter}
 use Rattle.play_run.specs.declared.player.Ended.{Ended}
@@ -57,11 +60,11 @@ module _ (a a' v' b v c d : ℕ) (same : a' ≡ a) (none : v' ≡ 0) (closed : b
   rose why f (inr r) = late why f r
 
 -- the same of the files that were opened, run and closed
-pub rose_closed : {H V F : Type 0} (faults : H → ℕ) (view : V → ℕ) (first there run closed : FileState H V F) (a c d : ℕ) (why : Ended) → there ≡ first → faults first.parts.host ≡ a → view first.parts.view ≡ 0
+pub rose_closed : {H V F : Type 0} {h : Host.Ghosts H V F} {v : View.Ghosts V} {f : Fresh.Ghosts F} (faults : H → ℕ) (view : V → ℕ) (first there run closed : FileState H V F h v f) (a c d : ℕ) (why : Ended) → there ≡ first → faults first.parts.host ≡ a → view first.parts.view ≡ 0
     → FaultsAfter why (record { host = faults there.parts.host; view = view there.parts.view }) (record { host = faults run.parts.host; view = view run.parts.view }) → closed ≡ run
     → faults closed.parts.host ≤ c → (1 ≤ view closed.parts.view → risen (faults closed.parts.host) ≤ c) → (view closed.parts.view ≡ 0 → c ≡ faults closed.parts.host) → c ≤ d
     → (why ≡ HostFault) ⊎ (risen c ≤ d) → risen a ≤ d
-rose_closed {H} {V} {F} faults view first there run closed a c d why opened same none after close counts failed quiet no_less said =
-    rose a (faults there.parts.host) (view there.parts.view) (faults closed.parts.host) (view closed.parts.view) c d (ap (λ (f : FileState H V F). faults f.parts.host) opened ∙ same)
-    (ap (λ (f : FileState H V F). view f.parts.view) opened ∙ none) counts failed quiet no_less why
-    (subst (λ (f : FileState H V F). FaultsAfter why (record { host = faults there.parts.host; view = view there.parts.view }) (record { host = faults f.parts.host; view = view f.parts.view })) (sym close) after) said
+rose_closed {H} {V} {F} {h} {v} {f} faults view first there run closed a c d why opened same none after close counts failed quiet no_less said =
+    rose a (faults there.parts.host) (view there.parts.view) (faults closed.parts.host) (view closed.parts.view) c d (ap (λ (file : FileState H V F h v f). faults file.parts.host) opened ∙ same)
+    (ap (λ (file : FileState H V F h v f). view file.parts.view) opened ∙ none) counts failed quiet no_less why
+    (subst (λ (file : FileState H V F h v f). FaultsAfter why (record { host = faults there.parts.host; view = view there.parts.view }) (record { host = faults file.parts.host; view = view file.parts.view })) (sym close) after) said

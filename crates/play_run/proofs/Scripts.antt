@@ -3,7 +3,9 @@ use Rattle.std.proofs.Common.{◌≡◌, ℕ, Bool, List, [], ◌∷◌, ◌++�
 use Rattle.std.specs.Prelude.{IsTrue}
 use Rattle.block_host.specs.Calls.{Reads}
 use Rattle.block_host.specs.Disk.{Disk, Image}
-use Rattle.block_host.specs.declared.block.Block.{Block}
+use Rattle.block_host.specs.declared.fresh.Fresh as Fresh
+use Rattle.block_host.specs.declared.host.Host as Host
+use Rattle.block_host.specs.declared.view.View as View
 use Rattle.file_parts.specs.Held.{held}
 use Rattle.file_core.specs.Updates.{bytes_of}
 use Rattle.file_core.specs.declared.state.FileState.{FileState}
@@ -26,8 +28,8 @@ pub seen_same : (old new : Disk) → Reads old new → seen new ≡ seen old
 seen_same old new r = seen_by old new r.files r.said
 
 -- what a closed host shows
-pub closed_seen : {H V F : Type 0} (disk : H → Disk) (there closed : FileState H V F) (now : Disk) → closed ≡ there → Reads (disk closed.parts.host) now → seen now ≡ seen (disk there.parts.host)
-closed_seen {H} {V} {F} disk there closed now same reads = seen_same (disk closed.parts.host) now reads ∙ ap (λ (f : FileState H V F). seen (disk f.parts.host)) same
+pub closed_seen : {H V F : Type 0} {h : Host.Ghosts H V F} {v : View.Ghosts V} {f : Fresh.Ghosts F} (there closed : FileState H V F h v f) (now : Disk) → closed ≡ there → Reads (h.disk closed.parts.host) now → seen now ≡ seen (h.disk there.parts.host)
+closed_seen {H} {V} {F} {h} {v} {f} there closed now same reads = seen_same (h.disk closed.parts.host) now reads ∙ ap (λ (file : FileState H V F h v f). seen (h.disk file.parts.host)) same
 
 -- the file of a new store that was opened, as the host showed it before
 opened_file : (tells : Bool) (old : Disk) (o : Opened) (s : State) (f : File) → StandsFor tells o s f → o.held.revision ≡ 1 → (IsTrue tells → Reads old o.disk) → IsTrue tells → f ≡ (seen old).file
@@ -35,26 +37,24 @@ opened_file tells old o s f h one reads told =
     h.file.shown told ∙ ap bytes_of (h.stands.shown told ∙ ap o.disk.files one ∙ ap (λ (files : Image). files 1) (reads told).files)
 
 -- before its first line a player stands where its file does
-pub somewhere_first : {H V F : Type 0} (tells : Bool) (disk : H → Disk) (content : V → List Block) (f there : FileState H V F) (lanes : List StoreRef) → f ≡ there
-    → IsSomewhere tells (position (disk there.parts.host) (content there.parts.view) there.parts lanes) → IsSomewhere tells (position (disk f.parts.host) (content f.parts.view) f.parts lanes)
-somewhere_first {H} {V} {F} tells disk content f there lanes same at =
-    subst (λ (g : FileState H V F). IsSomewhere tells (position (disk g.parts.host) (content g.parts.view) g.parts lanes)) (sym same) at
+pub somewhere_first : {H V F : Type 0} {h : Host.Ghosts H V F} {v : View.Ghosts V} {f : Fresh.Ghosts F} (tells : Bool) (file there : FileState H V F h v f) (lanes : List StoreRef) → file ≡ there
+    → IsSomewhere tells (position there.parts lanes) → IsSomewhere tells (position file.parts lanes)
+somewhere_first {H} {V} {F} {h} {v} {f} tells file there lanes same at =
+    subst (λ (g : FileState H V F h v f). IsSomewhere tells (position g.parts lanes)) (sym same) at
 
 -- how a run ends over a new store that was opened, and what is said at its end
-module _ {H V F : Type 0} (tells : Bool) (disk : H → Disk) (content : V → List Block) (base : Disk) (there : FileState H V F) (state : State) (stood : (f : File) × StandsFor tells (opened (disk there.parts.host) (content there.parts.view) there.parts) state f)
-    (one : (held there.parts).revision ≡ 1) (reads : IsTrue tells → Reads base (disk there.parts.host)) where
-  pub script_ends : (why : Ended) (f : FileState H V F) (lanes : List StoreRef) (line_open : List ℕ) (c n n' : ℕ) (s1 : Seen) (script left : List ℕ) → f ≡ there
-      → ((s : Seen) (g : File) → StandsFor tells (opened (disk there.parts.host) (content there.parts.view) there.parts) state g → (IsTrue tells → g ≡ s.file)
-      → HasTaken tells s s [] (position (disk there.parts.host) (content there.parts.view) there.parts lanes) line_open c)
-      → ((s : Seen) → HasTaken tells s (seen (disk f.parts.host)) [] (position (disk f.parts.host) (content f.parts.view) f.parts lanes) line_open c → EndsBy why tells s s1 script left n)
+module _ {H V F : Type 0} {h : Host.Ghosts H V F} {v : View.Ghosts V} {f : Fresh.Ghosts F} (tells : Bool) (base : Disk) (there : FileState H V F h v f) (state : State) (stood : (file : File) × StandsFor tells (opened there.parts) state file) (one : (held there.parts).revision ≡ 1) (reads : IsTrue tells → Reads base (h.disk there.parts.host)) where
+  pub script_ends : (why : Ended) (file : FileState H V F h v f) (lanes : List StoreRef) (line_open : List ℕ) (c n n' : ℕ) (s1 : Seen) (script left : List ℕ) → file ≡ there
+      → ((s : Seen) (g : File) → StandsFor tells (opened there.parts) state g → (IsTrue tells → g ≡ s.file) → HasTaken tells s s [] (position there.parts lanes) line_open c)
+      → ((s : Seen) → HasTaken tells s (seen (h.disk file.parts.host)) [] (position file.parts lanes) line_open c → EndsBy why tells s s1 script left n)
       → n' ≡ n → EndsBy why tells (seen base) s1 script left n'
-  script_ends why f lanes line_open c n n' s1 script left same first run count =
-      let has : HasTaken tells (seen base) (seen (disk there.parts.host)) [] (position (disk there.parts.host) (content there.parts.view) there.parts lanes) line_open c =
-      taken_same tells (seen base) (seen base) (seen (disk there.parts.host)) [] (position (disk there.parts.host) (content there.parts.view) there.parts lanes) line_open c
-      (first (seen base) stood.0 stood.1 (opened_file tells base (opened (disk there.parts.host) (content there.parts.view) there.parts) state stood.0 stood.1 one reads))
-      (λ told. seen_same base (disk there.parts.host) (reads told)) in
+  script_ends why file lanes line_open c n n' s1 script left same first run count =
+      let has : HasTaken tells (seen base) (seen (h.disk there.parts.host)) [] (position there.parts lanes) line_open c =
+      taken_same tells (seen base) (seen base) (seen (h.disk there.parts.host)) [] (position there.parts lanes) line_open c
+      (first (seen base) stood.0 stood.1 (opened_file tells base (opened there.parts) state stood.0 stood.1 one reads))
+      (λ told. seen_same base (h.disk there.parts.host) (reads told)) in
       subst (λ (k : ℕ). EndsBy why tells (seen base) s1 script left k) (sym count)
-      (run (seen base) (subst (λ (g : FileState H V F). HasTaken tells (seen base) (seen (disk g.parts.host)) [] (position (disk g.parts.host) (content g.parts.view) g.parts lanes) line_open c) (sym same) has))
+      (run (seen base) (subst (λ (g : FileState H V F h v f). HasTaken tells (seen base) (seen (h.disk g.parts.host)) [] (position g.parts lanes) line_open c) (sym same) has))
 
 -- what is said at the end, behind what the closed host shows
 pub says_end : (why : Ended) (tells : Bool) (s1 s2 now : Seen) (status n : ℕ) → (IsTrue tells → s2 ≡ s1) → (IsTrue tells → SaysEnd why status n s2 now) → IsTrue tells → SaysEnd why status n s1 now

@@ -2,6 +2,9 @@
 use Rattle.std.specs.Prelude.{◌≡◌, ◌<◌, ℕ, Bool, IsTrue, List, Option, Some, None, slice_get}
 use Rattle.block_host.specs.Disk.{Disk}
 use Rattle.block_host.specs.declared.block.Block.{Block}
+use Rattle.block_host.specs.declared.fresh.Fresh as Fresh
+use Rattle.block_host.specs.declared.host.Host as Host
+use Rattle.block_host.specs.declared.view.View as View
 use Rattle.file_parts.specs.Held.{Held, held}
 use Rattle.file_core.specs.Stands.{Stands}
 use Rattle.file_core.specs.Updates.{IsFile}
@@ -26,16 +29,16 @@ pub record Opened : Type 1 where
   pub disk : Disk
   pub blocks : List Block
 
-abbrev pub opened : {H V F : Type 0} → Disk → List Block → Parts H V F → Opened
-opened disk blocks p = record { held = held p; disk = disk; blocks = blocks }
+abbrev pub opened : {H V F : Type 0} {h : Host.Ghosts H V F} {v : View.Ghosts V} {f : Fresh.Ghosts F} → Parts H V F h v f → Opened
+opened {H} {V} {F} {h} {v} {f} p = record { held = held p; disk = h.disk p.host; blocks = v.content p.view }
 
 -- with the store of each of the sixteen lanes
 pub record Position : Type 1 where
   pub file : Opened
   pub lanes : List StoreRef
 
-abbrev pub position : {H V F : Type 0} → Disk → List Block → Parts H V F → List StoreRef → Position
-position disk blocks p lanes = record { file = opened disk blocks p; lanes = lanes }
+abbrev pub position : {H V F : Type 0} {h : Host.Ghosts H V F} {v : View.Ghosts V} {f : Fresh.Ghosts F} → Parts H V F h v f → List StoreRef → Position
+position p lanes = record { file = opened p; lanes = lanes }
 
 -- an open file stands for a state and a file
 pub record StandsFor (tells : Bool) (o : Opened) (s : State) (f : File) : Type 0 where

@@ -49,10 +49,10 @@ pub(crate) struct Player<H: Host> {
 
 /// Runs the line of a text, and gives what is told for it.
 fn told_for<H: Host>(alloc: Global, session: &mut Session<H>, text: &[u8]) -> Result<Told, Ended>
-    requires somewhere { IsSomewhere H.tells (position (H.disk session.old.file.parts.host) (H.View.content session.old.file.parts.view) session.old.file.parts session.old.lanes) }
+    requires somewhere { IsSomewhere H.tells (position session.old.file.parts session.old.lanes) }
     ensures runs { IfOk result (RunsText H.tells text.now
-        (position (H.disk session.old.file.parts.host) (H.View.content session.old.file.parts.view) session.old.file.parts session.old.lanes)
-        (position (H.disk session.new.file.parts.host) (H.View.content session.new.file.parts.view) session.new.file.parts session.new.lanes)
+        (position session.old.file.parts session.old.lanes)
+        (position session.new.file.parts session.new.lanes)
         (seen (H.disk session.old.file.parts.host)) (seen (H.disk session.new.file.parts.host))) }
     ensures spelled { IfOk result (λ t. CanBeSaid t.said) }
     ensures bad { result ≡ Err Ended.BadLine → IsBad text.now × (IsTrue H.tells → seen (H.disk session.new.file.parts.host) ≡ seen (H.disk session.old.file.parts.host)) }
@@ -94,11 +94,11 @@ impl<H: Host> Player<H> {
     pub(crate) fn new(alloc: Global, file: FileState<H>) -> Player<H>
         ensures file { result.session.file ≡ file }
         ensures none { result.count ≡ 0 }
-        ensures somewhere { (f : File) → StandsFor H.tells (opened (H.disk file.parts.host) (H.View.content file.parts.view) file.parts) (new_state usual_limits) f
-            → IsSomewhere H.tells (position (H.disk file.parts.host) (H.View.content file.parts.view) file.parts result.session.lanes) }
-        ensures taken { (base : Seen) (f : File) → StandsFor H.tells (opened (H.disk file.parts.host) (H.View.content file.parts.view) file.parts) (new_state usual_limits) f
+        ensures somewhere { (f : File) → StandsFor H.tells (opened file.parts) (new_state usual_limits) f
+            → IsSomewhere H.tells (position file.parts result.session.lanes) }
+        ensures taken { (base : Seen) (f : File) → StandsFor H.tells (opened file.parts) (new_state usual_limits) f
             → (IsTrue H.tells → f ≡ base.file)
-            → HasTaken H.tells base base [] (position (H.disk file.parts.host) (H.View.content file.parts.view) file.parts result.session.lanes) result.open_line.items result.count }
+            → HasTaken H.tells base base [] (position file.parts result.session.lanes) result.open_line.items result.count }
     {
         Player {
             alloc,
@@ -128,16 +128,16 @@ impl<H: Host> Player<H> {
 
     /// Runs the open line, which is whole, and says its reply.
     fn answer(&mut self) -> Result<(), Ended>
-        requires somewhere { IsSomewhere H.tells (position (H.disk self.old.session.file.parts.host) (H.View.content self.old.session.file.parts.view) self.old.session.file.parts self.old.session.lanes) }
+        requires somewhere { IsSomewhere H.tells (position self.old.session.file.parts self.old.session.lanes) }
         requires small { self.old.count < 2 ^ 27 }
         ensures run { OnOk result ((base : Seen) (texts : List (List ℕ)) → IsText self.old.open_line.items
-            → HasRun H.tells base (seen (H.disk self.old.session.file.parts.host)) texts (position (H.disk self.old.session.file.parts.host) (H.View.content self.old.session.file.parts.view) self.old.session.file.parts self.old.session.lanes) self.old.count
-            → HasRun H.tells base (seen (H.disk self.new.session.file.parts.host)) (texts ++ self.old.open_line.items ∷ []) (position (H.disk self.new.session.file.parts.host) (H.View.content self.new.session.file.parts.view) self.new.session.file.parts self.new.session.lanes) self.new.count) }
+            → HasRun H.tells base (seen (H.disk self.old.session.file.parts.host)) texts (position self.old.session.file.parts self.old.session.lanes) self.old.count
+            → HasRun H.tells base (seen (H.disk self.new.session.file.parts.host)) (texts ++ self.old.open_line.items ∷ []) (position self.new.session.file.parts self.new.session.lanes) self.new.count) }
         ensures open_line { OnOk result (self.new.open_line.items ≡ []) }
         ensures count { OnOk result (self.new.count ≡ self.old.count + 1) }
-        ensures somewhere { OnOk result (IsSomewhere H.tells (position (H.disk self.new.session.file.parts.host) (H.View.content self.new.session.file.parts.view) self.new.session.file.parts self.new.session.lanes)) }
+        ensures somewhere { OnOk result (IsSomewhere H.tells (position self.new.session.file.parts self.new.session.lanes)) }
         ensures same_count { OnErr result (self.new.count ≡ self.old.count) }
-        ensures stops { IfErr result (λ why. StopsText why H.tells self.old.open_line.items (position (H.disk self.old.session.file.parts.host) (H.View.content self.old.session.file.parts.view) self.old.session.file.parts self.old.session.lanes) self.old.count (seen (H.disk self.old.session.file.parts.host)) (seen (H.disk self.new.session.file.parts.host))) }
+        ensures stops { IfErr result (λ why. StopsText why H.tells self.old.open_line.items (position self.old.session.file.parts self.old.session.lanes) self.old.count (seen (H.disk self.old.session.file.parts.host)) (seen (H.disk self.new.session.file.parts.host))) }
         ensures stop { IfErr result (IsStop H.tells) }
         ensures untroubled { OnOk result ((H.faults self.new.session.file.parts.host ≡ H.faults self.old.session.file.parts.host) × (H.View.faults self.new.session.file.parts.view ≡ H.View.faults self.old.session.file.parts.view)) }
         ensures faults { IfErr result (λ why. FaultsAfter why (record { host = H.faults self.old.session.file.parts.host; view = H.View.faults self.old.session.file.parts.view }) (record { host = H.faults self.new.session.file.parts.host; view = H.View.faults self.new.session.file.parts.view })) }
@@ -162,15 +162,15 @@ impl<H: Host> Player<H> {
 
     /// Takes the next byte of the script.
     fn take_byte(&mut self, byte: u8) -> Result<(), Ended>
-        requires somewhere { IsSomewhere H.tells (position (H.disk self.old.session.file.parts.host) (H.View.content self.old.session.file.parts.view) self.old.session.file.parts self.old.session.lanes) }
+        requires somewhere { IsSomewhere H.tells (position self.old.session.file.parts self.old.session.lanes) }
         requires small { self.old.count < 2 ^ 27 }
         ensures taken { OnOk result ((base : Seen) (taken : List ℕ)
-            → HasTaken H.tells base (seen (H.disk self.old.session.file.parts.host)) taken (position (H.disk self.old.session.file.parts.host) (H.View.content self.old.session.file.parts.view) self.old.session.file.parts self.old.session.lanes) self.old.open_line.items self.old.count
-            → HasTaken H.tells base (seen (H.disk self.new.session.file.parts.host)) (taken ++ byte ∷ []) (position (H.disk self.new.session.file.parts.host) (H.View.content self.new.session.file.parts.view) self.new.session.file.parts self.new.session.lanes) self.new.open_line.items self.new.count) }
+            → HasTaken H.tells base (seen (H.disk self.old.session.file.parts.host)) taken (position self.old.session.file.parts self.old.session.lanes) self.old.open_line.items self.old.count
+            → HasTaken H.tells base (seen (H.disk self.new.session.file.parts.host)) (taken ++ byte ∷ []) (position self.new.session.file.parts self.new.session.lanes) self.new.open_line.items self.new.count) }
         ensures count { self.new.count ≤ self.old.count + 1 }
-        ensures somewhere { OnOk result (IsSomewhere H.tells (position (H.disk self.new.session.file.parts.host) (H.View.content self.new.session.file.parts.view) self.new.session.file.parts self.new.session.lanes)) }
+        ensures somewhere { OnOk result (IsSomewhere H.tells (position self.new.session.file.parts self.new.session.lanes)) }
         ensures stops { IfErr result (λ why. (base : Seen) (taken : List ℕ)
-            → HasTaken H.tells base (seen (H.disk self.old.session.file.parts.host)) taken (position (H.disk self.old.session.file.parts.host) (H.View.content self.old.session.file.parts.view) self.old.session.file.parts self.old.session.lanes) self.old.open_line.items self.old.count
+            → HasTaken H.tells base (seen (H.disk self.old.session.file.parts.host)) taken (position self.old.session.file.parts self.old.session.lanes) self.old.open_line.items self.old.count
             → Stops why H.tells base (seen (H.disk self.new.session.file.parts.host)) (taken ++ byte ∷ []) self.new.count) }
         ensures stop { IfErr result (IsStop H.tells) }
         ensures untroubled { OnOk result ((H.faults self.new.session.file.parts.host ≡ H.faults self.old.session.file.parts.host) × (H.View.faults self.new.session.file.parts.view ≡ H.View.faults self.old.session.file.parts.view)) }
@@ -190,15 +190,15 @@ impl<H: Host> Player<H> {
 
     /// Takes the next bytes of the script.
     fn take_bytes(&mut self, bytes: &[u8]) -> Result<(), Ended>
-        requires somewhere { IsSomewhere H.tells (position (H.disk self.old.session.file.parts.host) (H.View.content self.old.session.file.parts.view) self.old.session.file.parts self.old.session.lanes) }
+        requires somewhere { IsSomewhere H.tells (position self.old.session.file.parts self.old.session.lanes) }
         requires small { self.old.count + length bytes.now < 2 ^ 27 }
         ensures taken { OnOk result ((base : Seen) (taken : List ℕ)
-            → HasTaken H.tells base (seen (H.disk self.old.session.file.parts.host)) taken (position (H.disk self.old.session.file.parts.host) (H.View.content self.old.session.file.parts.view) self.old.session.file.parts self.old.session.lanes) self.old.open_line.items self.old.count
-            → HasTaken H.tells base (seen (H.disk self.new.session.file.parts.host)) (taken ++ bytes.now) (position (H.disk self.new.session.file.parts.host) (H.View.content self.new.session.file.parts.view) self.new.session.file.parts self.new.session.lanes) self.new.open_line.items self.new.count) }
+            → HasTaken H.tells base (seen (H.disk self.old.session.file.parts.host)) taken (position self.old.session.file.parts self.old.session.lanes) self.old.open_line.items self.old.count
+            → HasTaken H.tells base (seen (H.disk self.new.session.file.parts.host)) (taken ++ bytes.now) (position self.new.session.file.parts self.new.session.lanes) self.new.open_line.items self.new.count) }
         ensures count { self.new.count ≤ self.old.count + length bytes.now }
-        ensures somewhere { OnOk result (IsSomewhere H.tells (position (H.disk self.new.session.file.parts.host) (H.View.content self.new.session.file.parts.view) self.new.session.file.parts self.new.session.lanes)) }
+        ensures somewhere { OnOk result (IsSomewhere H.tells (position self.new.session.file.parts self.new.session.lanes)) }
         ensures stops { IfErr result (λ why. (base : Seen) (taken : List ℕ)
-            → HasTaken H.tells base (seen (H.disk self.old.session.file.parts.host)) taken (position (H.disk self.old.session.file.parts.host) (H.View.content self.old.session.file.parts.view) self.old.session.file.parts self.old.session.lanes) self.old.open_line.items self.old.count
+            → HasTaken H.tells base (seen (H.disk self.old.session.file.parts.host)) taken (position self.old.session.file.parts self.old.session.lanes) self.old.open_line.items self.old.count
             → Stops why H.tells base (seen (H.disk self.new.session.file.parts.host)) (taken ++ bytes.now) self.new.count) }
         ensures stop { IfErr result (IsStop H.tells) }
         ensures untroubled { OnOk result ((H.faults self.new.session.file.parts.host ≡ H.faults self.old.session.file.parts.host) × (H.View.faults self.new.session.file.parts.view ≡ H.View.faults self.old.session.file.parts.view)) }
@@ -214,10 +214,10 @@ impl<H: Host> Player<H> {
 
     /// Runs the last line of an input, which may lack its newline.
     fn end(&mut self) -> Ended
-        requires somewhere { IsSomewhere H.tells (position (H.disk self.old.session.file.parts.host) (H.View.content self.old.session.file.parts.view) self.old.session.file.parts self.old.session.lanes) }
+        requires somewhere { IsSomewhere H.tells (position self.old.session.file.parts self.old.session.lanes) }
         requires small { self.old.count < 2 ^ 27 }
         ensures ends { (base : Seen) (taken : List ℕ) → length taken ≤ SCRIPT_LIMIT
-            → HasTaken H.tells base (seen (H.disk self.old.session.file.parts.host)) taken (position (H.disk self.old.session.file.parts.host) (H.View.content self.old.session.file.parts.view) self.old.session.file.parts self.old.session.lanes) self.old.open_line.items self.old.count
+            → HasTaken H.tells base (seen (H.disk self.old.session.file.parts.host)) taken (position self.old.session.file.parts self.old.session.lanes) self.old.open_line.items self.old.count
             → EndsBy result H.tells base (seen (H.disk self.new.session.file.parts.host)) taken [] self.new.count }
         ensures read { result ≢ Ended.SourceFault }
         ensures sound { IsSound H.tells result }
@@ -241,19 +241,19 @@ impl<H: Host> Player<H> {
         room: &mut [u8],
         left: usize,
     ) -> Result<usize, Ended>
-        requires somewhere { IsSomewhere H.tells (position (H.disk self.old.session.file.parts.host) (H.View.content self.old.session.file.parts.view) self.old.session.file.parts self.old.session.lanes) }
+        requires somewhere { IsSomewhere H.tells (position self.old.session.file.parts self.old.session.lanes) }
         requires small { self.old.count + left ≤ SCRIPT_LIMIT + 1 }
         requires some { 0 < length room.old }
         requires within { length room.old ≤ left }
         ensures fed { IfOk result (λ n. (1 ≤ n) × (n < left) × (self.new.count ≤ self.old.count + n)) }
         ensures few { self.new.count ≤ SCRIPT_LIMIT + 1 }
-        ensures somewhere { OnOk result (IsSomewhere H.tells (position (H.disk self.new.session.file.parts.host) (H.View.content self.new.session.file.parts.view) self.new.session.file.parts self.new.session.lanes)) }
+        ensures somewhere { OnOk result (IsSomewhere H.tells (position self.new.session.file.parts self.new.session.lanes)) }
         ensures taken { IfOk result (λ n. IsTrue S.tells → (base : Seen) (taken script : List ℕ) → script ≡ taken ++ S.rest source.old
-            → HasTaken H.tells base (seen (H.disk self.old.session.file.parts.host)) taken (position (H.disk self.old.session.file.parts.host) (H.View.content self.old.session.file.parts.view) self.old.session.file.parts self.old.session.lanes) self.old.open_line.items self.old.count
-            → Feeds H.tells base (seen (H.disk self.new.session.file.parts.host)) taken script (S.rest source.new) (position (H.disk self.new.session.file.parts.host) (H.View.content self.new.session.file.parts.view) self.new.session.file.parts self.new.session.lanes) self.new.open_line.items self.new.count n) }
+            → HasTaken H.tells base (seen (H.disk self.old.session.file.parts.host)) taken (position self.old.session.file.parts self.old.session.lanes) self.old.open_line.items self.old.count
+            → Feeds H.tells base (seen (H.disk self.new.session.file.parts.host)) taken script (S.rest source.new) (position self.new.session.file.parts self.new.session.lanes) self.new.open_line.items self.new.count n) }
         ensures ends { IfErr result (λ why. IsTrue S.tells → (base : Seen) (taken script : List ℕ) → script ≡ taken ++ S.rest source.old
             → length taken + left ≡ SCRIPT_LIMIT + 1
-            → HasTaken H.tells base (seen (H.disk self.old.session.file.parts.host)) taken (position (H.disk self.old.session.file.parts.host) (H.View.content self.old.session.file.parts.view) self.old.session.file.parts self.old.session.lanes) self.old.open_line.items self.old.count
+            → HasTaken H.tells base (seen (H.disk self.old.session.file.parts.host)) taken (position self.old.session.file.parts self.old.session.lanes) self.old.open_line.items self.old.count
             → EndsBy why H.tells base (seen (H.disk self.new.session.file.parts.host)) script (S.rest source.new) self.new.count) }
         ensures sound { IfErr result (IsSound H.tells) }
         ensures source { result ≡ Err Ended.SourceFault → risen (S.faults source.old) ≤ S.faults source.new }
@@ -277,10 +277,10 @@ impl<H: Host> Player<H> {
 
     /// Runs the script of a source, to its end or to what ends it before.
     pub(crate) fn run<S: Source>(&mut self, source: &mut S) -> Ended
-        requires somewhere { IsSomewhere H.tells (position (H.disk self.old.session.file.parts.host) (H.View.content self.old.session.file.parts.view) self.old.session.file.parts self.old.session.lanes) }
+        requires somewhere { IsSomewhere H.tells (position self.old.session.file.parts self.old.session.lanes) }
         requires none { self.old.count ≡ 0 }
         ensures ends { IsTrue S.tells → (base : Seen)
-            → HasTaken H.tells base (seen (H.disk self.old.session.file.parts.host)) [] (position (H.disk self.old.session.file.parts.host) (H.View.content self.old.session.file.parts.view) self.old.session.file.parts self.old.session.lanes) self.old.open_line.items self.old.count
+            → HasTaken H.tells base (seen (H.disk self.old.session.file.parts.host)) [] (position self.old.session.file.parts self.old.session.lanes) self.old.open_line.items self.old.count
             → EndsBy result H.tells base (seen (H.disk self.new.session.file.parts.host)) (S.rest source.old) (S.rest source.new) self.new.count }
         ensures sound { IsSound H.tells result }
         ensures source { result ≡ Ended.SourceFault → risen (S.faults source.old) ≤ S.faults source.new }

@@ -28,8 +28,8 @@ impl<H: Host> Session<H> {
     /// All lanes at the store `default`.
     pub(crate) fn new(file: FileState<H>) -> Session<H>
         ensures file { result.file ≡ file }
-        ensures start { (f : File) → StandsFor H.tells (opened (H.disk file.parts.host) (H.View.content file.parts.view) file.parts) (new_state usual_limits) f
-            → IsAt H.tells (position (H.disk file.parts.host) (H.View.content file.parts.view) file.parts result.lanes) start f }
+        ensures start { (f : File) → StandsFor H.tells (opened file.parts) (new_state usual_limits) f
+            → IsAt H.tells (position file.parts result.lanes) start f }
     {
         let at = StoreRef {
             store: 0,
@@ -44,11 +44,11 @@ impl<H: Host> Session<H> {
     /// Runs a line, and gives what is told for it. None where it isn't one that is run.
     pub(crate) fn tell(&mut self, line: &Line) -> Result<Option<Told>, Ended>
         requires right { IsRight false line.now }
-        requires somewhere { IsSomewhere H.tells (position (H.disk self.old.file.parts.host) (H.View.content self.old.file.parts.view) self.old.file.parts self.old.lanes) }
+        requires somewhere { IsSomewhere H.tells (position self.old.file.parts self.old.lanes) }
         ensures built { IfOk result (λ told. IsSome told ↔ IsTrue (is_built line.now)) }
         ensures goes { IfOk result (λ told. IfSome told (LeadsEach H.tells
-            (position (H.disk self.old.file.parts.host) (H.View.content self.old.file.parts.view) self.old.file.parts self.old.lanes)
-            (position (H.disk self.new.file.parts.host) (H.View.content self.new.file.parts.view) self.new.file.parts self.new.lanes) line.now)) }
+            (position self.old.file.parts self.old.lanes)
+            (position self.new.file.parts self.new.lanes) line.now)) }
         ensures spelled { IfOk result (λ told. IfSome told (λ t. CanBeSaid t.said)) }
         ensures none { IfOk result (λ told. IfNone told (IsTrue H.tells → seen (H.disk self.new.file.parts.host) ≡ seen (H.disk self.old.file.parts.host))) }
         ensures stop { IfErr result (IsStop H.tells) }

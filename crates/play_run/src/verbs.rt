@@ -44,10 +44,10 @@ pub(crate) fn run<H: Host>(
 ) -> Result<Said, Ended>
     requires built { IsTrue (is_built_verb verb.now) }
     requires right { IsRightVerb false verb.now }
-    requires somewhere { (s : State) × (f : File) × StandsFor H.tells (opened (H.disk file.old.parts.host) (H.View.content file.old.parts.view) file.old.parts) s f }
+    requires somewhere { (s : State) × (f : File) × StandsFor H.tells (opened file.old.parts) s f }
     ensures answers { IfOk result (Answers H.tells verb.now at.old at.new
-        (opened (H.disk file.old.parts.host) (H.View.content file.old.parts.view) file.old.parts)
-        (opened (H.disk file.new.parts.host) (H.View.content file.new.parts.view) file.new.parts)) }
+        (opened file.old.parts)
+        (opened file.new.parts)) }
     ensures spelled { IfOk result CanBeSaid }
     ensures stop { IfErr result (IsStop H.tells) }
     ensures line { result ≢ Err Ended.BadLine }
@@ -78,10 +78,10 @@ fn use_store<H: Host>(
     name: &Bytes,
     read_only: bool,
 ) -> Result<Said, Ended>
-    requires somewhere { (s : State) × (f : File) × StandsFor H.tells (opened (H.disk file.old.parts.host) (H.View.content file.old.parts.view) file.old.parts) s f }
+    requires somewhere { (s : State) × (f : File) × StandsFor H.tells (opened file.old.parts) s f }
     ensures answers { IfOk result (Answers H.tells (Verb.UseStore name.now read_only) at.old at.new
-        (opened (H.disk file.old.parts.host) (H.View.content file.old.parts.view) file.old.parts)
-        (opened (H.disk file.new.parts.host) (H.View.content file.new.parts.view) file.new.parts)) }
+        (opened file.old.parts)
+        (opened file.new.parts)) }
     ensures spelled { IfOk result CanBeSaid }
     ensures stop { IfErr result (IsStop H.tells) }
     ensures line { result ≢ Err Ended.BadLine }
@@ -100,10 +100,10 @@ fn use_store<H: Host>(
 }
 
 fn remove<H: Host>(file: &mut FileState<H>, at: &StoreRef, name: &Bytes) -> Result<Said, Ended>
-    requires somewhere { (s : State) × (f : File) × StandsFor H.tells (opened (H.disk file.old.parts.host) (H.View.content file.old.parts.view) file.old.parts) s f }
+    requires somewhere { (s : State) × (f : File) × StandsFor H.tells (opened file.old.parts) s f }
     ensures answers { IfOk result (Answers H.tells (Verb.Remove name.now) at.now at.now
-        (opened (H.disk file.old.parts.host) (H.View.content file.old.parts.view) file.old.parts)
-        (opened (H.disk file.new.parts.host) (H.View.content file.new.parts.view) file.new.parts)) }
+        (opened file.old.parts)
+        (opened file.new.parts)) }
     ensures spelled { IfOk result CanBeSaid }
     ensures stop { IfErr result (IsStop H.tells) }
     ensures line { result ≢ Err Ended.BadLine }
@@ -125,10 +125,10 @@ fn set<H: Host>(
     meta: &Bytes,
     body: &Bytes,
 ) -> Result<Said, Ended>
-    requires somewhere { (s : State) × (f : File) × StandsFor H.tells (opened (H.disk file.old.parts.host) (H.View.content file.old.parts.view) file.old.parts) s f }
+    requires somewhere { (s : State) × (f : File) × StandsFor H.tells (opened file.old.parts) s f }
     ensures answers { IfOk result (Answers H.tells (Verb.Set key.now meta.now body.now) at.now at.now
-        (opened (H.disk file.old.parts.host) (H.View.content file.old.parts.view) file.old.parts)
-        (opened (H.disk file.new.parts.host) (H.View.content file.new.parts.view) file.new.parts)) }
+        (opened file.old.parts)
+        (opened file.new.parts)) }
     ensures spelled { IfOk result CanBeSaid }
     ensures stop { IfErr result (IsStop H.tells) }
     ensures line { result ≢ Err Ended.BadLine }
@@ -144,10 +144,10 @@ fn set<H: Host>(
 }
 
 fn del<H: Host>(file: &mut FileState<H>, at: &StoreRef, key: &Bytes) -> Result<Said, Ended>
-    requires somewhere { (s : State) × (f : File) × StandsFor H.tells (opened (H.disk file.old.parts.host) (H.View.content file.old.parts.view) file.old.parts) s f }
+    requires somewhere { (s : State) × (f : File) × StandsFor H.tells (opened file.old.parts) s f }
     ensures answers { IfOk result (Answers H.tells (Verb.Del key.now) at.now at.now
-        (opened (H.disk file.old.parts.host) (H.View.content file.old.parts.view) file.old.parts)
-        (opened (H.disk file.new.parts.host) (H.View.content file.new.parts.view) file.new.parts)) }
+        (opened file.old.parts)
+        (opened file.new.parts)) }
     ensures spelled { IfOk result CanBeSaid }
     ensures stop { IfErr result (IsStop H.tells) }
     ensures line { result ≢ Err Ended.BadLine }
@@ -163,12 +163,12 @@ fn del<H: Host>(file: &mut FileState<H>, at: &StoreRef, key: &Bytes) -> Result<S
 }
 
 fn batch<H: Host>(file: &mut FileState<H>, at: &StoreRef, items: &Items) -> Result<Said, Ended>
-    requires somewhere { (s : State) × (f : File) × StandsFor H.tells (opened (H.disk file.old.parts.host) (H.View.content file.old.parts.view) file.old.parts) s f }
+    requires somewhere { (s : State) × (f : File) × StandsFor H.tells (opened file.old.parts) s f }
     requires some { 1 ≤ length items.now }
     requires few { length items.now ≤ 1024 }
     ensures answers { IfOk result (Answers H.tells (Verb.Batch items.now) at.now at.now
-        (opened (H.disk file.old.parts.host) (H.View.content file.old.parts.view) file.old.parts)
-        (opened (H.disk file.new.parts.host) (H.View.content file.new.parts.view) file.new.parts)) }
+        (opened file.old.parts)
+        (opened file.new.parts)) }
     ensures spelled { IfOk result CanBeSaid }
     ensures stop { IfErr result (IsStop H.tells) }
     ensures line { result ≢ Err Ended.BadLine }
@@ -184,10 +184,10 @@ fn batch<H: Host>(file: &mut FileState<H>, at: &StoreRef, items: &Items) -> Resu
 }
 
 fn get<H: Host>(file: &mut FileState<H>, at: &StoreRef, key: &Bytes) -> Result<Said, Ended>
-    requires somewhere { (s : State) × (f : File) × StandsFor H.tells (opened (H.disk file.old.parts.host) (H.View.content file.old.parts.view) file.old.parts) s f }
+    requires somewhere { (s : State) × (f : File) × StandsFor H.tells (opened file.old.parts) s f }
     ensures answers { IfOk result (Answers H.tells (Verb.Get key.now) at.now at.now
-        (opened (H.disk file.old.parts.host) (H.View.content file.old.parts.view) file.old.parts)
-        (opened (H.disk file.new.parts.host) (H.View.content file.new.parts.view) file.new.parts)) }
+        (opened file.old.parts)
+        (opened file.new.parts)) }
     ensures spelled { IfOk result CanBeSaid }
     ensures stop { IfErr result (IsStop H.tells) }
     ensures line { result ≢ Err Ended.BadLine }
@@ -203,10 +203,10 @@ fn get<H: Host>(file: &mut FileState<H>, at: &StoreRef, key: &Bytes) -> Result<S
 }
 
 fn by_seq<H: Host>(file: &mut FileState<H>, at: &StoreRef, seq: u64) -> Result<Said, Ended>
-    requires somewhere { (s : State) × (f : File) × StandsFor H.tells (opened (H.disk file.old.parts.host) (H.View.content file.old.parts.view) file.old.parts) s f }
+    requires somewhere { (s : State) × (f : File) × StandsFor H.tells (opened file.old.parts) s f }
     ensures answers { IfOk result (Answers H.tells (Verb.BySeq seq) at.now at.now
-        (opened (H.disk file.old.parts.host) (H.View.content file.old.parts.view) file.old.parts)
-        (opened (H.disk file.new.parts.host) (H.View.content file.new.parts.view) file.new.parts)) }
+        (opened file.old.parts)
+        (opened file.new.parts)) }
     ensures spelled { IfOk result CanBeSaid }
     ensures stop { IfErr result (IsStop H.tells) }
     ensures line { result ≢ Err Ended.BadLine }
@@ -222,10 +222,10 @@ fn by_seq<H: Host>(file: &mut FileState<H>, at: &StoreRef, seq: u64) -> Result<S
 }
 
 fn info<H: Host>(file: &mut FileState<H>, at: &StoreRef) -> Result<Said, Ended>
-    requires somewhere { (s : State) × (f : File) × StandsFor H.tells (opened (H.disk file.old.parts.host) (H.View.content file.old.parts.view) file.old.parts) s f }
+    requires somewhere { (s : State) × (f : File) × StandsFor H.tells (opened file.old.parts) s f }
     ensures answers { IfOk result (Answers H.tells (Verb.Info) at.now at.now
-        (opened (H.disk file.old.parts.host) (H.View.content file.old.parts.view) file.old.parts)
-        (opened (H.disk file.new.parts.host) (H.View.content file.new.parts.view) file.new.parts)) }
+        (opened file.old.parts)
+        (opened file.new.parts)) }
     ensures spelled { IfOk result CanBeSaid }
     ensures stop { IfErr result (IsStop H.tells) }
     ensures line { result ≢ Err Ended.BadLine }
@@ -241,10 +241,10 @@ fn info<H: Host>(file: &mut FileState<H>, at: &StoreRef) -> Result<Said, Ended>
 }
 
 fn commit_now<H: Host>(file: &mut FileState<H>, at: &StoreRef) -> Result<Said, Ended>
-    requires somewhere { (s : State) × (f : File) × StandsFor H.tells (opened (H.disk file.old.parts.host) (H.View.content file.old.parts.view) file.old.parts) s f }
+    requires somewhere { (s : State) × (f : File) × StandsFor H.tells (opened file.old.parts) s f }
     ensures answers { IfOk result (Answers H.tells (Verb.Commit) at.now at.now
-        (opened (H.disk file.old.parts.host) (H.View.content file.old.parts.view) file.old.parts)
-        (opened (H.disk file.new.parts.host) (H.View.content file.new.parts.view) file.new.parts)) }
+        (opened file.old.parts)
+        (opened file.new.parts)) }
     ensures spelled { IfOk result CanBeSaid }
     ensures stop { IfErr result (IsStop H.tells) }
     ensures line { result ≢ Err Ended.BadLine }

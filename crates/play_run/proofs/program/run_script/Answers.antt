@@ -16,67 +16,67 @@ returns-in-Err-clause-memory g c = λ _ told. nothing_run _ _ _ _ (λ tells. see
 pub run-ended-requires-clause-somewhere : goal.run-ended-requires-clause-somewhere
 run-ended-requires-clause-somewhere g c κs within =
     let stood = c.in-Ok.ensures.file c.requires in
-    somewhere_first _ g.H.Host.disk g.H.View.View.content c.new-player.result.session.file c.in-Ok.file _ c.new-player.ensures.file
+    somewhere_first _ c.new-player.result.session.file c.in-Ok.file _ c.new-player.ensures.file
     (c.new-player.ensures.somewhere stood.0 (record { stands = c.in-Ok.ensures.stands c.requires; file = stood.1 }))
 
 pub returns-clause-all : goal.returns-clause-all
 returns-clause-all g c = λ status told.
     let stood = c.in-Ok.ensures.file c.requires in
-    let ends = script_ends _ g.H.Host.disk g.H.View.View.content (g.H.Host.disk c.args.host) c.in-Ok.file (new_state usual_limits) (stood.0, record { stands = c.in-Ok.ensures.stands c.requires; file = stood.1 })
+    let ends = script_ends _ (g.H.Host.disk c.args.host) c.in-Ok.file (new_state usual_limits) (stood.0, record { stands = c.in-Ok.ensures.stands c.requires; file = stood.1 })
     (ap (λ (h : Held). h.revision) c.in-Ok.ensures.held) c.in-Ok.ensures.told c.run-ended.result c.new-player.result.session.file _ _ _ _ _ _ _ _ c.new-player.ensures.file c.new-player.ensures.taken (c.run-ended.ensures.ends told) c.close-file.ensures.count in
-    let said = says_end c.run-ended.result _ _ _ _ _ _ (λ tells. closed_seen g.H.Host.disk _ c.close-file.result.0 _ c.close-file.ensures.file (c.close.ensures.told tells)) c.finish.ensures.said in
+    let said = says_end c.run-ended.result _ _ _ _ _ _ (λ tells. closed_seen _ c.close-file.result.0 _ c.close-file.ensures.file (c.close.ensures.told tells)) c.finish.ensures.said in
     played_all _ _ _ _ _ _ _ _ c.run-ended.result ends c.finish.ensures.ends said status
 
 pub returns-clause-said_source : goal.returns-clause-said_source
 returns-clause-said_source g c = λ status told.
     let stood = c.in-Ok.ensures.file c.requires in
-    let ends = script_ends _ g.H.Host.disk g.H.View.View.content (g.H.Host.disk c.args.host) c.in-Ok.file (new_state usual_limits) (stood.0, record { stands = c.in-Ok.ensures.stands c.requires; file = stood.1 })
+    let ends = script_ends _ (g.H.Host.disk c.args.host) c.in-Ok.file (new_state usual_limits) (stood.0, record { stands = c.in-Ok.ensures.stands c.requires; file = stood.1 })
     (ap (λ (h : Held). h.revision) c.in-Ok.ensures.held) c.in-Ok.ensures.told c.run-ended.result c.new-player.result.session.file _ _ _ _ _ _ _ _ c.new-player.ensures.file c.new-player.ensures.taken (c.run-ended.ensures.ends told) c.close-file.ensures.count in
-    let said = says_end c.run-ended.result _ _ _ _ _ _ (λ tells. closed_seen g.H.Host.disk _ c.close-file.result.0 _ c.close-file.ensures.file (c.close.ensures.told tells)) c.finish.ensures.said in
+    let said = says_end c.run-ended.result _ _ _ _ _ _ (λ tells. closed_seen _ c.close-file.result.0 _ c.close-file.ensures.file (c.close.ensures.told tells)) c.finish.ensures.said in
     played_fault _ _ _ _ _ _ _ _ c.run-ended.result ends c.finish.ensures.ends said status
 
 pub returns-clause-bad : goal.returns-clause-bad
 returns-clause-bad g c = λ status told.
     let stood = c.in-Ok.ensures.file c.requires in
-    let ends = script_ends _ g.H.Host.disk g.H.View.View.content (g.H.Host.disk c.args.host) c.in-Ok.file (new_state usual_limits) (stood.0, record { stands = c.in-Ok.ensures.stands c.requires; file = stood.1 })
+    let ends = script_ends _ (g.H.Host.disk c.args.host) c.in-Ok.file (new_state usual_limits) (stood.0, record { stands = c.in-Ok.ensures.stands c.requires; file = stood.1 })
     (ap (λ (h : Held). h.revision) c.in-Ok.ensures.held) c.in-Ok.ensures.told c.run-ended.result c.new-player.result.session.file _ _ _ _ _ _ _ _ c.new-player.ensures.file c.new-player.ensures.taken (c.run-ended.ensures.ends told) c.close-file.ensures.count in
-    let said = says_end c.run-ended.result _ _ _ _ _ _ (λ tells. closed_seen g.H.Host.disk _ c.close-file.result.0 _ c.close-file.ensures.file (c.close.ensures.told tells)) c.finish.ensures.said in
+    let said = says_end c.run-ended.result _ _ _ _ _ _ (λ tells. closed_seen _ c.close-file.result.0 _ c.close-file.ensures.file (c.close.ensures.told tells)) c.finish.ensures.said in
     played_bad _ _ _ _ _ _ _ _ c.run-ended.result ends c.finish.ensures.ends said status
 
 pub returns-clause-said_host : goal.returns-clause-said_host
 returns-clause-said_host g c = λ status told.
     let stood = c.in-Ok.ensures.file c.requires in
-    let ends = script_ends _ g.H.Host.disk g.H.View.View.content (g.H.Host.disk c.args.host) c.in-Ok.file (new_state usual_limits) (stood.0, record { stands = c.in-Ok.ensures.stands c.requires; file = stood.1 })
+    let ends = script_ends _ (g.H.Host.disk c.args.host) c.in-Ok.file (new_state usual_limits) (stood.0, record { stands = c.in-Ok.ensures.stands c.requires; file = stood.1 })
     (ap (λ (h : Held). h.revision) c.in-Ok.ensures.held) c.in-Ok.ensures.told c.run-ended.result c.new-player.result.session.file _ _ _ _ _ _ _ _ c.new-player.ensures.file c.new-player.ensures.taken (c.run-ended.ensures.ends told) c.close-file.ensures.count in
-    let said = says_end c.run-ended.result _ _ _ _ _ _ (λ tells. closed_seen g.H.Host.disk _ c.close-file.result.0 _ c.close-file.ensures.file (c.close.ensures.told tells)) c.finish.ensures.said in
+    let said = says_end c.run-ended.result _ _ _ _ _ _ (λ tells. closed_seen _ c.close-file.result.0 _ c.close-file.ensures.file (c.close.ensures.told tells)) c.finish.ensures.said in
     played_part _ _ _ _ _ _ _ _ c.run-ended.result ends c.finish.ensures.ends said status
 
 pub returns-clause-memory : goal.returns-clause-memory
 returns-clause-memory g c = λ status told.
     let stood = c.in-Ok.ensures.file c.requires in
-    let ends = script_ends _ g.H.Host.disk g.H.View.View.content (g.H.Host.disk c.args.host) c.in-Ok.file (new_state usual_limits) (stood.0, record { stands = c.in-Ok.ensures.stands c.requires; file = stood.1 })
+    let ends = script_ends _ (g.H.Host.disk c.args.host) c.in-Ok.file (new_state usual_limits) (stood.0, record { stands = c.in-Ok.ensures.stands c.requires; file = stood.1 })
     (ap (λ (h : Held). h.revision) c.in-Ok.ensures.held) c.in-Ok.ensures.told c.run-ended.result c.new-player.result.session.file _ _ _ _ _ _ _ _ c.new-player.ensures.file c.new-player.ensures.taken (c.run-ended.ensures.ends told) c.close-file.ensures.count in
-    let said = says_end c.run-ended.result _ _ _ _ _ _ (λ tells. closed_seen g.H.Host.disk _ c.close-file.result.0 _ c.close-file.ensures.file (c.close.ensures.told tells)) c.finish.ensures.said in
+    let said = says_end c.run-ended.result _ _ _ _ _ _ (λ tells. closed_seen _ c.close-file.result.0 _ c.close-file.ensures.file (c.close.ensures.told tells)) c.finish.ensures.said in
     played_some _ _ _ _ _ _ _ _ c.run-ended.result ends c.finish.ensures.ends said status
 
 pub returns-clause-bad_line : goal.returns-clause-bad_line
 returns-clause-bad_line g c = λ told taken.
     let stood = c.in-Ok.ensures.file c.requires in
-    let ends = script_ends _ g.H.Host.disk g.H.View.View.content (g.H.Host.disk c.args.host) c.in-Ok.file (new_state usual_limits) (stood.0, record { stands = c.in-Ok.ensures.stands c.requires; file = stood.1 })
+    let ends = script_ends _ (g.H.Host.disk c.args.host) c.in-Ok.file (new_state usual_limits) (stood.0, record { stands = c.in-Ok.ensures.stands c.requires; file = stood.1 })
     (ap (λ (h : Held). h.revision) c.in-Ok.ensures.held) c.in-Ok.ensures.told c.run-ended.result c.new-player.result.session.file _ _ _ _ _ _ _ _ c.new-player.ensures.file c.new-player.ensures.taken (c.run-ended.ensures.ends told) c.close-file.ensures.count in
     met_bad _ _ _ (seen (g.H.Host.disk c.args.host)) _ _ _ _ c.run-ended.result ends c.finish.ensures.ends taken
 
 pub returns-clause-bad_end : goal.returns-clause-bad_end
 returns-clause-bad_end g c = λ told taken.
     let stood = c.in-Ok.ensures.file c.requires in
-    let ends = script_ends _ g.H.Host.disk g.H.View.View.content (g.H.Host.disk c.args.host) c.in-Ok.file (new_state usual_limits) (stood.0, record { stands = c.in-Ok.ensures.stands c.requires; file = stood.1 })
+    let ends = script_ends _ (g.H.Host.disk c.args.host) c.in-Ok.file (new_state usual_limits) (stood.0, record { stands = c.in-Ok.ensures.stands c.requires; file = stood.1 })
     (ap (λ (h : Held). h.revision) c.in-Ok.ensures.held) c.in-Ok.ensures.told c.run-ended.result c.new-player.result.session.file _ _ _ _ _ _ _ _ c.new-player.ensures.file c.new-player.ensures.taken (c.run-ended.ensures.ends told) c.close-file.ensures.count in
     met_bad_end _ _ _ (seen (g.H.Host.disk c.args.host)) _ _ _ _ c.run-ended.result ends c.finish.ensures.ends taken
 
 pub returns-clause-complete : goal.returns-clause-complete
 returns-clause-complete g c = λ told tells good source host.
     let stood = c.in-Ok.ensures.file c.requires in
-    let ends = script_ends _ g.H.Host.disk g.H.View.View.content (g.H.Host.disk c.args.host) c.in-Ok.file (new_state usual_limits) (stood.0, record { stands = c.in-Ok.ensures.stands c.requires; file = stood.1 })
+    let ends = script_ends _ (g.H.Host.disk c.args.host) c.in-Ok.file (new_state usual_limits) (stood.0, record { stands = c.in-Ok.ensures.stands c.requires; file = stood.1 })
     (ap (λ (h : Held). h.revision) c.in-Ok.ensures.held) c.in-Ok.ensures.told c.run-ended.result c.new-player.result.session.file _ _ _ _ _ _ _ _ c.new-player.ensures.file c.new-player.ensures.taken (c.run-ended.ensures.ends told) c.close-file.ensures.count in
     completes _ _ _ (seen (g.H.Host.disk c.args.host)) _ _ _ _ c.run-ended.result ends c.finish.ensures.ends tells good
     (λ is. not_both _ _ source (c.run-ended.ensures.source is))

@@ -1,5 +1,5 @@
 use Rattle.std.proofs.Common.{refl, sym, Some}
-use Rattle.file_parts.specs.Moment.{moment_of}
+use Rattle.file_parts.specs.Moment.{moment}
 use Rattle.forest_model.specs.declared.call.Call.TheVariants as calls
 use Rattle.forest_model.specs.declared.call.Reply.TheVariants as replies
 use Rattle.forest_model.specs.declared.line.Said.TheVariants as says
@@ -11,8 +11,8 @@ pub returns-in-Ok-clause-answers : goal.returns-in-Ok-clause-answers
 returns-in-Ok-clause-answers g c =
     let before = c.args.file.now.parts in
     let after = c.batch.new.self.parts in
-    let old = moment_of (g.H.Host.disk before.host) (g.H.View.View.content before.view) (g.H.Host.faults before.host) (g.H.View.View.faults before.view) before in
-    let new = moment_of (g.H.Host.disk after.host) (g.H.View.View.content after.view) (g.H.Host.faults after.host) (g.H.View.View.faults after.view) after in
+    let old = moment before in
+    let new = moment after in
     update_done g.H.Host.tells replies.Seq (verbs.Batch c.args.items.now) (calls.Batch c.args.at.now c.as_slice.result.now) c.args.at.now old new c.args.at.now c.in-Ok.seq (says.Done c.in-Ok.seq)
     (λ i. Some (calls.Batch c.args.at.now (sym c.as_slice.ensures i))) refl refl c.in-Ok.ensures.updates
 
@@ -20,10 +20,10 @@ pub returns-in-Err : goal.returns-in-Err
 returns-in-Err g c =
     let before = c.args.file.now.parts in
     let after = c.batch.new.self.parts in
-    let old = moment_of (g.H.Host.disk before.host) (g.H.View.View.content before.view) (g.H.Host.faults before.host) (g.H.View.View.faults before.view) before in
-    let new = moment_of (g.H.Host.disk after.host) (g.H.View.View.content after.view) (g.H.Host.faults after.host) (g.H.View.View.faults after.view) after in
+    let old = moment before in
+    let new = moment after in
     let r =
     update_refused g.H.Host.tells replies.Seq (verbs.Batch c.args.items.now) _ c.args.at.now old new c.in-Err.why c.refused.result c.refused.ensures.exact
     (λ i. Some (calls.Batch c.args.at.now (sym c.as_slice.ensures i)))
-    c.in-Err.ensures.updates c.requires.somewhere c.in-Err.ensures.untroubled c.in-Err.ensures.view_count c.in-Err.ensures.counts in
-    record { answers = r.answers; spelled = r.spelled; stop = r.stop; line = r.line; silent = λ told. (c.in-Err.ensures.aside told).said; untroubled = r.untroubled; faults = r.faults }
+    c.in-Err.ensures.updates c.requires.somewhere c.in-Err.ensures.keeps.untroubled c.in-Err.ensures.keeps.view_count c.in-Err.ensures.keeps.counts in
+    record { answers = r.answers; spelled = r.spelled; stop = r.stop; line = r.line; silent = λ told. (c.in-Err.ensures.keeps.aside told).said; untroubled = r.untroubled; faults = r.faults }

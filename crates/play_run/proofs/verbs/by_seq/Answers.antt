@@ -1,6 +1,6 @@
 use Rattle.std.proofs.Common.{refl, ap, ◌∙◌}
 use Rattle.file_parts.specs.Held.{held}
-use Rattle.file_parts.specs.Moment.{moment_of}
+use Rattle.file_parts.specs.Moment.{moment}
 use Rattle.forest_model.specs.declared.call.Call.TheVariants as calls
 use Rattle.forest_model.specs.declared.line.Said.TheVariants as says
 use Rattle.forest_model.specs.declared.line.Verb.TheVariants as verbs
@@ -11,8 +11,8 @@ pub returns-in-Ok-clause-answers : goal.returns-in-Ok-clause-answers
 returns-in-Ok-clause-answers g c =
     let before = c.args.file.now.parts in
     let after = c.by_seq.new.self.parts in
-    let old = moment_of (g.H.Host.disk before.host) (g.H.View.View.content before.view) (g.H.Host.faults before.host) (g.H.View.View.faults before.view) before in
-    let new = moment_of (g.H.Host.disk after.host) (g.H.View.View.content after.view) (g.H.Host.faults after.host) (g.H.View.View.faults after.view) after in
+    let old = moment before in
+    let new = moment after in
     read_found g.H.Host.tells (verbs.BySeq c.args.seq) (calls.BySeq c.args.at.now c.args.seq) c.args.at.now old new
     refl (λ s f. refl)
     (record { held = c.in-Ok.ensures.left; files = ap (λ h. (g.H.Host.disk h).files) c.by_seq.ensures.host; shown = c.by_seq.ensures.content; host = ap g.H.Host.faults c.by_seq.ensures.host })
@@ -22,8 +22,8 @@ pub returns-in-Err : goal.returns-in-Err
 returns-in-Err g c =
     let before = c.args.file.now.parts in
     let after = c.by_seq.new.self.parts in
-    let old = moment_of (g.H.Host.disk before.host) (g.H.View.View.content before.view) (g.H.Host.faults before.host) (g.H.View.View.faults before.view) before in
-    let new = moment_of (g.H.Host.disk after.host) (g.H.View.View.content after.view) (g.H.Host.faults after.host) (g.H.View.View.faults after.view) after in
+    let old = moment before in
+    let new = moment after in
     let r =
     read_refused g.H.Host.tells (verbs.BySeq c.args.seq) (calls.BySeq c.args.at.now c.args.seq) c.args.at.now old new
     refl (λ s f. refl)

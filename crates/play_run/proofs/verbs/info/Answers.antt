@@ -1,5 +1,5 @@
 use Rattle.std.proofs.Common.{refl, ap}
-use Rattle.file_parts.specs.Moment.{moment_of}
+use Rattle.file_parts.specs.Moment.{moment}
 use Rattle.forest_model.specs.declared.call.Call.TheVariants as calls
 use Rattle.forest_model.specs.declared.call.Reply.TheVariants as replies
 use Rattle.forest_model.specs.declared.line.Said.TheVariants as says
@@ -11,8 +11,8 @@ pub returns-in-Ok-clause-answers : goal.returns-in-Ok-clause-answers
 returns-in-Ok-clause-answers g c =
     let before = c.args.file.now.parts in
     let after = c.info.new.self.parts in
-    let old = moment_of (g.H.Host.disk before.host) (g.H.View.View.content before.view) (g.H.Host.faults before.host) (g.H.View.View.faults before.view) before in
-    let new = moment_of (g.H.Host.disk after.host) (g.H.View.View.content after.view) (g.H.Host.faults after.host) (g.H.View.View.faults after.view) after in
+    let old = moment before in
+    let new = moment after in
     reply_said g.H.Host.tells verbs.Info (calls.Info c.args.at.now) c.args.at.now old new
     refl (λ s f. refl)
     (record { held = c.info.ensures.held; files = ap (λ h. (g.H.Host.disk h).files) c.info.ensures.host; shown = λ _. ap g.H.View.View.content c.info.ensures.view; host = ap g.H.Host.faults c.info.ensures.host })
@@ -22,8 +22,8 @@ pub returns-in-Err : goal.returns-in-Err
 returns-in-Err g c =
     let before = c.args.file.now.parts in
     let after = c.info.new.self.parts in
-    let old = moment_of (g.H.Host.disk before.host) (g.H.View.View.content before.view) (g.H.Host.faults before.host) (g.H.View.View.faults before.view) before in
-    let new = moment_of (g.H.Host.disk after.host) (g.H.View.View.content after.view) (g.H.Host.faults after.host) (g.H.View.View.faults after.view) after in
+    let old = moment before in
+    let new = moment after in
     let r =
     reply_refused g.H.Host.tells verbs.Info (calls.Info c.args.at.now) c.args.at.now old new
     refl (λ s f. refl)

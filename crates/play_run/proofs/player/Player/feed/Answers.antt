@@ -5,7 +5,7 @@ use Rattle.play_run.proofs.player.Player.feed.Goals as goal
 
 pub returns-in-Err-clause-ends : goal.returns-in-Err-clause-ends
 returns-in-Err-clause-ends g c = λ told base taken script source long has.
-    fault_ends _ base _ taken script _ c.args.self.now.open_line.items (position (g.H.Host.disk c.args.self.now.session.file.parts.host) (g.H.View.View.content c.args.self.now.session.file.parts.view) c.args.self.now.session.file.parts c.args.self.now.session.lanes) c.args.self.now.count has (omega (arith, long, c.requires.some, c.requires.within))
+    fault_ends _ base _ taken script _ c.args.self.now.open_line.items (position c.args.self.now.session.file.parts c.args.self.now.session.lanes) c.args.self.now.count has (omega (arith, long, c.requires.some, c.requires.within))
     (source ∙ ap (λ rest. taken ++ rest) (sym (c.in-Err.ensures.kept told)))
 
 pub returns-then-n-eq0-clause-ends : goal.returns-then-n-eq0-clause-ends
@@ -17,7 +17,7 @@ returns-then-n-eq0-clause-ends g c = λ told base taken script source long has.
 
 pub returns-in-Ok-2-clause-ends : goal.returns-in-Ok-2-clause-ends
 returns-in-Ok-2-clause-ends g c = λ told base taken script source long has.
-    read_too_long _ base _ taken c.read.new.room _ _ script _ (position (g.H.Host.disk c.take_bytes.new.self.session.file.parts.host) (g.H.View.View.content c.take_bytes.new.self.session.file.parts.view) c.take_bytes.new.self.session.file.parts c.take_bytes.new.self.session.lanes) _ c.in-Ok.n c.min.result (c.in-Ok-2.ensures.taken base taken has) (omega (arith, c.min.ensures, c.in-Ok.ensures.count)) (omega (arith, c.in-Ok.ensures.count))
+    read_too_long _ base _ taken c.read.new.room _ _ script _ (position c.take_bytes.new.self.session.file.parts c.take_bytes.new.self.session.lanes) _ c.in-Ok.n c.min.result (c.in-Ok-2.ensures.taken base taken has) (omega (arith, c.min.ensures, c.in-Ok.ensures.count)) (omega (arith, c.in-Ok.ensures.count))
     (c.in-Ok.ensures.given told) source (omega (arith, c.if-n-left.false, c.in-Ok.ensures.count))
 
 pub returns-in-Err-take_bytes-clause-ends : goal.returns-in-Err-take_bytes-clause-ends
@@ -27,5 +27,5 @@ returns-in-Err-take_bytes-clause-ends g c = λ told base taken script source lon
 
 pub returns-in-Ok-take_bytes-clause-taken : goal.returns-in-Ok-take_bytes-clause-taken
 returns-in-Ok-take_bytes-clause-taken g c = λ told base taken script source has.
-    read_feeds _ base _ taken c.read.new.room _ _ script _ (position (g.H.Host.disk c.take_bytes.new.self.session.file.parts.host) (g.H.View.View.content c.take_bytes.new.self.session.file.parts.view) c.take_bytes.new.self.session.file.parts c.take_bytes.new.self.session.lanes) _ c.in-Ok.n c.min.result (c.in-Ok-take_bytes.ensures.taken base taken has)
+    read_feeds _ base _ taken c.read.new.room _ _ script _ (position c.take_bytes.new.self.session.file.parts c.take_bytes.new.self.session.lanes) _ c.in-Ok.n c.min.result (c.in-Ok-take_bytes.ensures.taken base taken has)
     (omega (arith, c.min.ensures, c.if-n-left.true)) (omega (arith, c.in-Ok.ensures.count)) (c.in-Ok.ensures.given told) source

@@ -10,9 +10,9 @@ returns-in-Ok-clause-taken g c = λ base taken has.
 
 pub returns-in-Err-clause-stops : goal.returns-in-Err-clause-stops
 returns-in-Err-clause-stops g c = λ base taken has.
-    stops_line_by _ _ base _ _ taken c.args.self.now.open_line.items (position (g.H.Host.disk c.args.self.now.session.file.parts.host) (g.H.View.View.content c.args.self.now.session.file.parts.view) c.args.self.now.session.file.parts c.args.self.now.session.lanes) c.args.self.now.count _ c.args.byte has
+    stops_line_by _ _ base _ _ taken c.args.self.now.open_line.items (position c.args.self.now.session.file.parts c.args.self.now.session.lanes) c.args.self.now.count _ c.args.byte has
     c.in-Err.ensures.stops c.in-Err.ensures.same_count c.if-byte-eq10.true
 
 pub returns-then-is_err-clause-stops : goal.returns-then-is_err-clause-stops
 returns-then-is_err-clause-stops g c = λ base taken has.
-    among _ base _ _ taken (c.args.byte ∷ []) c.args.self.now.open_line.items (position (g.H.Host.disk c.args.self.now.session.file.parts.host) (g.H.View.View.content c.args.self.now.session.file.parts.view) c.args.self.now.session.file.parts c.args.self.now.session.lanes) c.args.self.now.count has (λ _. refl)
+    among _ base _ _ taken (c.args.byte ∷ []) c.args.self.now.open_line.items (position c.args.self.now.session.file.parts c.args.self.now.session.lanes) c.args.self.now.count has (λ _. refl)

@@ -7,11 +7,11 @@ use Rattle.play_run.proofs.player.Player.take_bytes.Given as goal
 -- the bytes up to here were taken
 abbrev pub invariant-loop-byte : goal.invariant-loop-byte
 invariant-loop-byte g l = record {
-  somewhere : IsSomewhere g.H.Host.tells (position (g.H.Host.disk l.self.session.file.parts.host) (g.H.View.View.content l.self.session.file.parts.view) l.self.session.file.parts l.self.session.lanes);
+  somewhere : IsSomewhere g.H.Host.tells (position l.self.session.file.parts l.self.session.lanes);
   few : l.self.count ≤ l.initial.self.count + l.byte-index;
   host : g.H.Host.faults l.self.session.file.parts.host ≡ g.H.Host.faults l.initial.self.session.file.parts.host;
   view : g.H.View.View.faults l.self.session.file.parts.view ≡ g.H.View.View.faults l.initial.self.session.file.parts.view;
   taken : (base : Seen) (taken : List ℕ)
-      → HasTaken g.H.Host.tells base (seen (g.H.Host.disk l.initial.self.session.file.parts.host)) taken (position (g.H.Host.disk l.initial.self.session.file.parts.host) (g.H.View.View.content l.initial.self.session.file.parts.view) l.initial.self.session.file.parts l.initial.self.session.lanes) l.initial.self.open_line.items l.initial.self.count
-      → HasTaken g.H.Host.tells base (seen (g.H.Host.disk l.self.session.file.parts.host)) (taken ++ take l.byte-index l.bytes) (position (g.H.Host.disk l.self.session.file.parts.host) (g.H.View.View.content l.self.session.file.parts.view) l.self.session.file.parts l.self.session.lanes) l.self.open_line.items l.self.count;
+      → HasTaken g.H.Host.tells base (seen (g.H.Host.disk l.initial.self.session.file.parts.host)) taken (position l.initial.self.session.file.parts l.initial.self.session.lanes) l.initial.self.open_line.items l.initial.self.count
+      → HasTaken g.H.Host.tells base (seen (g.H.Host.disk l.self.session.file.parts.host)) (taken ++ take l.byte-index l.bytes) (position l.self.session.file.parts l.self.session.lanes) l.self.open_line.items l.self.count;
 }

@@ -7,5 +7,5 @@ pub returns-clause-goes : goal.returns-clause-goes
 returns-clause-goes g c = λ w f here.
     let old = c.args.self.now.file.parts in
     let new = c.run.new.file.parts in
-    leads g.H.Host.tells (position (g.H.Host.disk old.host) (g.H.View.View.content old.view) old c.args.self.now.lanes) (opened (g.H.Host.disk new.host) (g.H.View.View.content new.view) new) w f c.args.line.now
+    leads g.H.Host.tells (position old c.args.self.now.lanes) (opened new) w f c.args.line.now
     c.run.new.at (record { store = 0; read_only = false }) c.in_ok-said.said c.updates.result c.updates.ensures (sym c.if-not-is_built.ensures) c.requires.right.0 here c.in_ok-said.ensures.answers
