@@ -1,12 +1,12 @@
--- The header that the links lead to is the one that is looked for, and the blocks below it are counted one by one.
-use Rattle.std.proofs.Common.{◌≡◌, ℕ, zero, suc, ◌+◌, ◌-◌, ◌<◌, ◌≤◌, false, cond, [], length, take, drop, filter, get_or, Some, inl, inr, refl, sym, ap, ◌∙◌, arith}
+-- The header that the links lead to is the one that is looked for, and the blocks below it are taken one by one.
+use Rattle.std.proofs.Common.{◌≡◌, ℕ, zero, suc, ◌+◌, ◌-◌, ◌<◌, ◌≤◌, false, cond, [], ◌∷◌, ◌++◌, length, take, drop, filter, get_or, Some, inl, inr, refl, sym, ap, ◌∙◌, arith}
 use Rattle.std.specs.Prelude.{◌==◌, ◌&&◌}
 use Rattle.std.specs.Option.{option_map_or}
 use Rattle.std.proofs.lemmas.Bool.{cases_lt, le-leb, lt-leb, eq-eqb, ne_eqb}
-use Rattle.std.proofs.lemmas.List.{get_or-drop, length-drop}
-use Rattle.std.proofs.lemmas.List.Filters.{length-filter_more}
-use Rattle.forest_model.specs.Blocks.{File, Block, block_at, header_below, last_header, header_of, header_numbered, record_blocks, is_records, kind_of, commit_number, previous_link, wal_from}
-use Rattle.model_laws.specs.Copies.{IsLastHeader, LeadsTo, records_below, CopiesOf}
+use Rattle.std.proofs.lemmas.List.{append-nil, get_or-drop, length-drop}
+use Rattle.std.proofs.lemmas.List.Elements.{filter_more}
+use Rattle.forest_model.specs.Blocks.{File, Block, block_at, header_below, last_header, header_of, header_numbered, record_blocks, blocks_of_commit, is_records, kind_of, commit_number, previous_link, wal_from}
+use Rattle.model_laws.specs.Copies.{IsLastHeader, LeadsTo, records_in, CopiesOf}
 
 -- ---- the last header
 
@@ -52,32 +52,27 @@ leads file number (suc links) (suc n) from at few h =
 
 -- ---- the blocks below it
 
-none_more : (l r x : ℕ) → l ≡ 0 → l ≡ r → x ≡ 0 → l ≡ r + x
-none_more l r x none same zero_more = omega (arith, none, same, zero_more)
-
-one_more : (new old r x y : ℕ) → new ≡ old + x → old ≡ r → x ≡ y → new ≡ r + y
-one_more new old r x y grown same equal = omega (arith, grown, same, equal)
-
-counted : (file : File) (from to : ℕ) → to ≤ length file → length (record_blocks file from to) ≡ records_below file from to
-counted file from zero fits = ap (λ n. length (filter is_records (take n (drop from file)))) (let e : 0 - from ≡ 0 = omega arith in e)
-counted file from (suc k) fits =
-    let have : ℕ → ℕ = λ n. length (filter is_records (take n (drop from file))) in
-    let later : have (k - from) ≡ records_below file from k = counted file from k (omega (arith, fits)) in
+listed : (file : File) (from to : ℕ) → to ≤ length file → record_blocks file from to ≡ records_in file from to
+listed file from zero fits = ap (λ n. filter is_records (take n (drop from file))) (let e : 0 - from ≡ 0 = omega arith in e)
+listed file from (suc k) fits =
+    let have : ℕ → File = λ n. filter is_records (take n (drop from file)) in
+    let before : File = records_in file from k in
+    let later : have (k - from) ≡ before = listed file from k (omega (arith, fits)) in
     elim (cases_lt k from) [
-      | inl before ↦
-          let all : suc k - from ≡ 0 = omega (arith, before) in
-          let front : suc k - from ≡ k - from = omega (arith, before) in
-          none_more (have (suc k - from)) (records_below file from k) _ (ap have all) (ap have front ∙ later)
-          (ap (λ b. cond (b && is_records (block_at file k)) 1 0) (lt-leb from k before))
+      | inl below ↦
+          let front : suc k - from ≡ k - from = omega (arith, below) in
+          ap have front ∙ later ∙ sym (append-nil before)
+          ∙ sym (ap (λ b. before ++ cond (b && is_records (block_at file k)) (block_at file k ∷ []) []) (lt-leb from k below))
       | inr at_least ↦
           let i : ℕ = k - from in
           let one : suc k - from ≡ i + 1 = omega (arith, at_least) in
           let within : i < length (drop from file) = omega (arith, length-drop from file, fits, at_least) in
           let place : from + i ≡ k = omega (arith, at_least) in
           let block : get_or (drop from file) i [] ≡ block_at file k = get_or-drop from file i [] ∙ ap (block_at file) place in
-          one_more (have (suc k - from)) (have i) (records_below file from k) (cond (is_records (get_or (drop from file) i [])) 1 0) _
-          (ap have one ∙ length-filter_more is_records (drop from file) i [] within) later
-          (ap (λ (b : Block). cond (is_records b) 1 0) block ∙ sym (ap (λ b. cond (b && is_records (block_at file k)) 1 0) (le-leb from k at_least)))
+          ap have one ∙ filter_more is_records (drop from file) i [] within
+          ∙ ap (λ (l : File). l ++ cond (is_records (get_or (drop from file) i [])) (get_or (drop from file) i [] ∷ []) []) later
+          ∙ ap (λ (b : Block). before ++ cond (is_records b) (b ∷ []) []) block
+          ∙ sym (ap (λ b. before ++ cond (b && is_records (block_at file k)) (block_at file k ∷ []) []) (le-leb from k at_least))
     ]
 
 -- ---- what is copied
@@ -91,5 +86,7 @@ copies_of file number last links at h leads_to =
     let first : last_header file ≡ Some last = below_it file last (length file) h h.within (omega arith) in
     let few : links < length file = omega (arith, few_links file number links last at leads_to, h.within) in
     let found : header_numbered file number ≡ Some at = ap (header_of file number (length file)) first ∙ leads file number links (length file) last at few leads_to in
-    ap (λ o. length (option_map_or (λ n. record_blocks file (wal_from (block_at file n)) n) o [])) found
-    ∙ counted file (wal_from (block_at file at)) at (omega (arith, reaches file number links last at leads_to, h.within))
+    let copied : blocks_of_commit file number ≡ records_in file (wal_from (block_at file at)) at =
+    ap (λ o. option_map_or (λ n. record_blocks file (wal_from (block_at file n)) n) o []) found
+    ∙ listed file (wal_from (block_at file at)) at (omega (arith, reaches file number links last at leads_to, h.within)) in
+    (copied, ap length copied)

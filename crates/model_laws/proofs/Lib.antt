@@ -3,6 +3,7 @@ pub mod Changes
 pub mod Commits
 pub mod Conditions
 pub mod Copies
+pub mod Counted
 pub mod Finding
 pub mod Free
 pub mod FreeCalls

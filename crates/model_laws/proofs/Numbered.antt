@@ -18,11 +18,11 @@ use Rattle.model_laws.proofs.Conditions.{some_is}
 use Rattle.model_laws.proofs.Keys.{keys_total, same_key}
 use Rattle.model_laws.proofs.Lists.{found_passes}
 
-both_hold : (a b : Bool) → T (a && b) → (a ≡ true) × T b
+pub both_hold : (a b : Bool) → T (a && b) → (a ≡ true) × T b
 both_hold true b h = (refl, h)
 both_hold false b h = absurd h
 
-less : (o : Ordering) → is_lt o ≡ true → o ≡ Less
+pub less : (o : Ordering) → is_lt o ≡ true → o ≡ Less
 less Less e = refl
 less Equal e = absurd (subst T (sym e) tt)
 less Greater e = absurd (subst T (sym e) tt)

@@ -3,16 +3,18 @@ use Rattle.std.specs.Prelude.{◌≡◌, ◌≢◌, ℕ, ◌+◌, ◌<◌, ◌�
 use Rattle.std.specs.List.{list_all}
 use Rattle.forest_model.specs.Documents.{key_at, doc_of}
 use Rattle.forest_model.specs.Stores.{store_of}
-use Rattle.forest_model.specs.State.{IsState, OfStore, durable_of, nothing_new}
+use Rattle.forest_model.specs.State.{IsState, OfStore, Durable, durable_of, opened, nothing_new}
 use Rattle.forest_model.specs.Blocks.{File, is_records, last_header}
 use Rattle.forest_model.specs.Run.{unflushed_from}
 use Rattle.forest_model.specs.Step.{step_of, found_of}
+use Rattle.forest_model.specs.declared.call.Limits.{Limits}
 use Rattle.forest_model.specs.declared.call.StoreRef.{StoreRef}
 use Rattle.forest_model.specs.declared.call.Call.{Call}
 use Rattle.forest_model.specs.declared.call.Call.TheVariants.{Set, Get, BySeq, Info, Markers, StoreOpen, Commit, Rollback, SnapLatest, SnapAt, Begin, Delta, Switch}
 use Rattle.forest_model.specs.declared.call.Reply.{Reply}
 use Rattle.forest_model.specs.declared.call.Reply.TheVariants.{Seq, Document, Store, Committed, Begun, Refused}
 use Rattle.forest_model.specs.declared.refusal.Refusal.{Refusal}
+use Rattle.forest_model.specs.declared.state.Commit.{Commit as CommitRow}
 use Rattle.forest_model.specs.declared.state.State.{State}
 
 -- the reply to a call, and the state after it
@@ -105,6 +107,11 @@ is_durable call = false
 
 abbrev pub DurableStays : Type 0
 DurableStays = (s : State) (file : File) (call : Call) → is_durable call ≡ false → durable_of (state_after s file call) ≡ durable_of s
+
+-- what is durable is so again at opening, where nothing is new and no compaction runs
+abbrev pub OpenedIs : Type 0
+OpenedIs = (last : CommitRow) (earlier : List CommitRow) (d : Durable) (limits : Limits) → d.commits ≡ last ∷ earlier
+    → (durable_of (opened last earlier d limits) ≡ d) × IsTrue (nothing_new (opened last earlier d limits)) × ((opened last earlier d limits).copying ≡ None)
 
 -- record blocks behind a file leave its last header, and the block from which its records aren't in trees
 abbrev pub RecordsKeepHeader : Type 0

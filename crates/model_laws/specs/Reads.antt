@@ -1,9 +1,9 @@
 -- What the calls that read answer, and what a snapshot of a commit shows.
-use Rattle.std.specs.Prelude.{◌≡◌, ℕ, ◌↔◌, List, ◌∷◌, ◌++◌, map, reverse, Option, Some, None}
+use Rattle.std.specs.Prelude.{◌≡◌, ◌≢◌, ℕ, ◌↔◌, ◌⊎◌, List, [], ◌∷◌, ◌++◌, length, map, reverse, Option, Some, None}
 use Rattle.std.specs.List.{AllByRecursion}
-use Rattle.forest_model.specs.Documents.{Map, doc_at, count_of}
+use Rattle.forest_model.specs.Documents.{Map, doc_at}
 use Rattle.forest_model.specs.Stores.{store_of}
-use Rattle.forest_model.specs.State.{IsState, OfStore, retained}
+use Rattle.forest_model.specs.State.{IsState, EachLater, OfStore, retained}
 use Rattle.forest_model.specs.Blocks.{File}
 use Rattle.forest_model.specs.Session.{Snapshot, opened_snapshot}
 use Rattle.forest_model.specs.declared.call.StoreRef.{StoreRef}
@@ -55,12 +55,25 @@ abbrev pub shown_ticket : Option Copying → ℕ
 shown_ticket None = 0
 shown_ticket (Some c) = c.ticket
 
+-- the key is one of these
+abbrev pub IsAmong : List ℕ → List (List ℕ) → Type 0
+IsAmong key [] = ⊥
+IsAmong key (k ∷ keys) = (k ≡ key) ⊎ IsAmong key keys
+
+-- The keys at which a store has documents, each once.
+pub record AreKeysOf (documents : Map) (id : ℕ) (keys : List (List ℕ)) : Type 0 where
+  pub apart : EachLater (λ a b. a ≢ b) keys
+  pub each : (key : List ℕ) → IsAmong key keys ↔ ((doc : Doc) × (doc_at documents id key ≡ Some doc))
+
 pub record IsInfo (s : State) (reply : Reply) (id : ℕ) : Type 0 where
   pub info : InfoRow
   pub answers : reply ≡ InfoIs info
   pub commit : info.commit ≡ s.last.number
   pub seq : OfStore (store_of s.stores id) (λ st. info.seq ≡ st.seq)
-  pub documents : info.documents ≡ count_of s.documents id
+  -- as many documents as the store has keys
+  pub keys : List (List ℕ)
+  pub keys_of_store : AreKeysOf s.documents id keys
+  pub documents : info.documents ≡ length keys
   pub ticket : info.ticket ≡ shown_ticket s.copying
 
 abbrev pub InfoTells : Type 0

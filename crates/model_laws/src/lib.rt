@@ -4,7 +4,7 @@
 //! is proved here of the very definitions that the engine's contracts cite.
 #![tactic(auto)]
 
-ghost use Rattle.model_laws.specs.Laws.{RefusedLeaves, ReadsLeave, PlaceTells, RulesStay, SetIsGot, OthersStay, NothingNewMeans, DrawnStay, SeqStays, CommitDraws, BeginDraws, StoreDraws, DurableStays, RecordsKeepHeader};
+ghost use Rattle.model_laws.specs.Laws.{RefusedLeaves, ReadsLeave, PlaceTells, RulesStay, SetIsGot, OthersStay, NothingNewMeans, DrawnStay, SeqStays, CommitDraws, BeginDraws, StoreDraws, DurableStays, OpenedIs, RecordsKeepHeader};
 ghost use Rattle.model_laws.specs.Answered.{AnsweredExactly};
 ghost use Rattle.model_laws.specs.Refusals.{RefusedExactly};
 ghost use Rattle.model_laws.specs.Writes.{SetDraws, DeleteTakes, BatchIsItems};
@@ -13,7 +13,7 @@ ghost use Rattle.model_laws.specs.Commits.{CommitKeeps, CommitAgain, RollbackRet
 ghost use Rattle.model_laws.specs.Copies.{CopiesOf};
 ghost use Rattle.model_laws.specs.Reads.{GetTells, BySeqTells, OneDocument, InfoTells, MarkersTell, SnapsTell, SnapAtShows, SnapLatestShows};
 
-/// A refused call and a call that reads leave the state, and any other raises the place by one.
+/// A refused call and a call that reads leave the state. Every call raises the place by one, or changes nothing at all.
 pub fn refusals_and_reads()
     ensures refused { RefusedLeaves }
     ensures reads { ReadsLeave }
@@ -112,6 +112,11 @@ pub fn switches()
 /// Only a commit, a rollback and a switch change what is durable.
 pub fn durable()
     ensures { DurableStays }
+{}
+
+/// At opening the durable is what it was, nothing is new and no compaction runs.
+pub fn openings()
+    ensures { OpenedIs }
 {}
 
 /// Record blocks that are put behind a file leave its last header.

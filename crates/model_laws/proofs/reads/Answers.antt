@@ -11,6 +11,7 @@ use Rattle.forest_model.specs.declared.call.Call.TheVariants.{Get, BySeq, Info}
 use Rattle.forest_model.specs.declared.call.Reply.TheVariants.{Document}
 use Rattle.model_laws.specs.Reads.{GetTells, BySeqTells, OneDocument, InfoTells, IsInfo, MarkersTell}
 use Rattle.model_laws.proofs.Conditions.{key_fits, some_is, ticket_shown}
+use Rattle.model_laws.proofs.Counted.{keys_of, keys_counted, are_keys}
 use Rattle.model_laws.proofs.Finding.{by_seq_is, by_seq_says, get_is, get_tells}
 use Rattle.model_laws.proofs.Free.{answered_free, answered_has}
 use Rattle.model_laws.proofs.Numbered.{numbered_there, seq_is}
@@ -39,7 +40,9 @@ info_tells s file at h =
       answers = refl;
       commit = refl;
       seq = subst (λ o. OfStore o (λ t. seq_of s.stores at.store ≡ t.seq)) (sym st.1) (seq_at s.stores at.store st.0 st.1);
-      documents = refl;
+      keys = keys_of s.documents at.store;
+      keys_of_store = are_keys s.documents at.store;
+      documents = keys_counted s.documents at.store;
       ticket = ticket_shown s.copying;
     })
 
