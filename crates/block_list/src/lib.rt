@@ -10,6 +10,3 @@ mod group;
 mod groups;
 
 pub use blocks::Blocks;
-
-#[cfg(test)]
-mod tests;

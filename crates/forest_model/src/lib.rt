@@ -24,8 +24,6 @@ mod refusal;
 mod sequence;
 mod state;
 mod stored;
-#[cfg(test)]
-mod tests;
 
 pub use bytes::Bytes;
 pub use call::{Call, Event, Found, Info, Item, Items, Limits, Numbers, Placed, Reply, StoreRef};

@@ -15,6 +15,3 @@ pub use fresh::MemoryFresh;
 pub use memory_host::{MemoryHost, fresh_is_send, host_is_send, view_is_send};
 pub use pick::Pick;
 pub use view::MemoryView;
-
-#[cfg(test)]
-mod tests;

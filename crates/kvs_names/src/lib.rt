@@ -10,6 +10,3 @@ mod rows;
 mod table;
 
 pub use table::Names;
-
-#[cfg(test)]
-mod tests;
