@@ -9,6 +9,7 @@ use Rattle.doc_stream.specs.OpenBlock.{OpenBlock, AreFull, PutsBytes, address_of
 use Rattle.doc_stream.specs.Reading.{Holds, AreHeld, RecordAt}
 use Rattle.forest_model.specs.Records.{record_bytes, is_record, is_empty}
 use Rattle.doc_stream.specs.Runs.{Piece, RecordBlocks, Spreads, left}
+use Rattle.doc_stream.specs.Scanned.{open_piece}
 use Rattle.doc_stream.proofs.Fronts.{cases_nil, nil_front, nil_rest, split_front, got_at}
 use Rattle.doc_stream.proofs.KeptAt.{HeldAt, Keeps, record_from, record_some}
 
@@ -70,9 +71,6 @@ fills_left bytes p (q ∷ s ∷ pieces) fills =
     let zero : q.offset ≡ 0 = fills.4 in
     let some : q.bytes ≢ [] = λ e. omega (arith, ap length e) in
     subst (λ (l : List Piece). Fills bytes p l) (sym (left_some q (s ∷ pieces) some)) (fills.0, fills.1, fills.2, fills.3, fills.4, fills_left fills.0 q (s ∷ pieces) fills.5)
-
-abbrev pub open_piece : OpenBlock → Piece
-open_piece tail = record { block = tail.number; offset = 0; bytes = tail.bytes }
 
 -- Full blocks behind others, and the open block behind them, as pieces that bytes fill.
 pub record FilledFrom (revision : ℕ) (file : List Block) (tail : OpenBlock) (at count : ℕ) (bytes : List ℕ) : Type 0 where

@@ -5,16 +5,12 @@ use Rattle.block_host.specs.declared.block.Block.{Block}
 use Rattle.forest_model.specs.declared.stored.Rec.{Rec}
 use Rattle.doc_stream.specs.OpenBlock.{OpenBlock, PutsBytes, address_of}
 use Rattle.doc_stream.specs.Reading.{RecordAt}
+use Rattle.doc_stream.specs.Scanned.{IsAtEnd}
 use Rattle.doc_stream.specs.Writing.{Writing, Begins, Puts, Pads, Passes, Steps, Wrote}
 use Rattle.doc_stream.proofs.Filled.{put_keeps, put_stands}
 use Rattle.doc_stream.proofs.Fronts.{all_weaker, all_added}
 use Rattle.doc_stream.proofs.KeptAt.{Keeps, record_kept, pad_keeps, blocks_keep}
 use Rattle.doc_stream.proofs.Puts.{length-put}
-
--- the open block stands right behind the file, and has fewer bytes than a block takes
-pub record IsAtEnd (file : List Block) (tail : OpenBlock) : Type 0 where
-  pub number : tail.number ≡ length file
-  pub short : length tail.bytes < 4064
 
 abbrev pub AllStand : ℕ → List Block → OpenBlock → List (ℕ × Rec) → Type 0
 AllStand revision file tail records = AllByRecursion (λ (x : ℕ × Rec). RecordAt revision file tail x.0 x.1) records

@@ -6,22 +6,14 @@ use Rattle.forest_model.specs.declared.stored.Rec.{Rec}
 use Rattle.doc_stream.specs.OpenBlock.{OpenBlock, PutsBytes, address_of}
 use Rattle.forest_model.specs.Records.{record_bytes, is_record}
 use Rattle.doc_stream.specs.Runs.{Piece, RecordBlocks, Spreads, StartsAt, AreRecords, RecordsOf, left}
+use Rattle.doc_stream.specs.Scanned.{IsScanned, open_piece}
 use Rattle.doc_stream.specs.Writing.{Writing, Begins, Puts, Pads, Passes, AreOthers, Steps, Wrote}
 use Rattle.doc_stream.proofs.Extended.{piece, go_on, same_left, left_none}
-use Rattle.doc_stream.proofs.Filled.{Fills, PutPieces, SpreadsWhole, open_piece, put_pieces, fills_left, fills_spread, left_some, left_empty}
+use Rattle.doc_stream.proofs.Filled.{Fills, PutPieces, SpreadsWhole, put_pieces, fills_left, fills_spread, left_some, left_empty}
 use Rattle.doc_stream.proofs.Fronts.{got_at}
 use Rattle.doc_stream.proofs.Joined.{blocks_stay, blocks_joined, others_passed}
 use Rattle.doc_stream.proofs.KeptAt.{record_some}
-use Rattle.doc_stream.proofs.WrittenRead.{IsAtEnd, put_at_end, begins_at_end}
-
--- The pieces of the blocks from the start on, and the open block behind them, are the records.
-pub record IsScanned (revision : ℕ) (file : List Block) (tail : OpenBlock) (start : ℕ) (records : List (ℕ × Rec)) : Type 0 where
-  pub ends : IsAtEnd file tail
-  pub pieces : List Piece
-  pub count : ℕ
-  pub counted : start + count ≡ length file
-  pub blocks : RecordBlocks revision file start count pieces
-  pub are : AreRecords (pieces ++ open_piece tail ∷ []) records
+use Rattle.doc_stream.proofs.WrittenRead.{put_at_end, begins_at_end}
 
 -- blocks were appended
 appended : (revision : ℕ) (file more : List Block) (tail : OpenBlock) (start further : ℕ) (others : List Piece) (records : List (ℕ × Rec)) (was : IsScanned revision file tail start records) → RecordBlocks revision (file ++ more) tail.number further others → RecordBlocks revision (file ++ more) start (was.count + further) (was.pieces ++ others)
@@ -31,7 +23,7 @@ appended revision file more tail start further others records was behind =
     (subst (λ (n : ℕ). RecordBlocks revision (file ++ more) n further others) at behind)
 
 -- the open block was padded out
-padded : (revision : ℕ) (file : List Block) (tail : OpenBlock) (start : ℕ) (records : List (ℕ × Rec)) (block : Block) → IsScanned revision file tail start records → IsSealed revision tail.number 1 tail.bytes block → IsScanned revision (file ++ block ∷ []) (record { number = tail.number + 1; bytes = [] }) start records
+pub padded : (revision : ℕ) (file : List Block) (tail : OpenBlock) (start : ℕ) (records : List (ℕ × Rec)) (block : Block) → IsScanned revision file tail start records → IsSealed revision tail.number 1 tail.bytes block → IsScanned revision (file ++ block ∷ []) (record { number = tail.number + 1; bytes = [] }) start records
 padded revision file tail start records block was sealed =
     let is_end = was.ends.number in
     let counted = was.counted in
@@ -47,7 +39,7 @@ padded revision file tail start records block was sealed =
     }
 
 -- blocks of other kinds were appended where nothing was open
-passed : (revision : ℕ) (file others : List Block) (tail : OpenBlock) (start : ℕ) (records : List (ℕ × Rec)) → IsScanned revision file tail start records → tail.bytes ≡ [] → AreOthers revision tail.number others → IsScanned revision (file ++ others) (record { number = tail.number + length others; bytes = [] }) start records
+pub passed : (revision : ℕ) (file others : List Block) (tail : OpenBlock) (start : ℕ) (records : List (ℕ × Rec)) → IsScanned revision file tail start records → tail.bytes ≡ [] → AreOthers revision tail.number others → IsScanned revision (file ++ others) (record { number = tail.number + length others; bytes = [] }) start records
 passed revision file others tail start records was empty are =
     let is_end = was.ends.number in
     let counted = was.counted in
@@ -76,7 +68,7 @@ is_behind block offset r added others is some fills =
         (is, subst (StartsAt (address_of block offset)) is_left refl, (whole.behind, subst (λ (l : List Piece). Spreads (record_bytes r) l whole.behind) is_left whole.spreads, whole.nothing))
 
 -- a record was put
-put : (revision : ℕ) (r : Rec) (before after : OpenBlock) (file grown : List Block) (start : ℕ) (records : List (ℕ × Rec)) → IsTrue (is_record r) → IsScanned revision file before start records → PutsBytes revision (record_bytes r) before after file grown → IsScanned revision grown after start (records ++ (address_of before.number (length before.bytes), r) ∷ [])
+pub put : (revision : ℕ) (r : Rec) (before after : OpenBlock) (file grown : List Block) (start : ℕ) (records : List (ℕ × Rec)) → IsTrue (is_record r) → IsScanned revision file before start records → PutsBytes revision (record_bytes r) before after file grown → IsScanned revision grown after start (records ++ (address_of before.number (length before.bytes), r) ∷ [])
 put revision r before after file grown start records is was puts =
     by (put_pieces revision (record_bytes r) before after file grown was.ends.number was.ends.short puts)
   where
@@ -100,6 +92,19 @@ put revision r before after file grown start records is was puts =
           are = subst (λ (l : List Piece). AreRecords l (records ++ new)) (sym (append_assoc was.pieces pieces.full (open_piece after ∷ []) ∙ ap (λ (l : List Piece). was.pieces ++ l) pieces.all))
               (go_on before.number pieces.added pieces.others new records was.pieces 0 before.bytes was.are behind);
         }
+
+-- what the blocks up to the end hold, with nothing open behind them
+pub opened : (revision : ℕ) (file : List Block) (start count : ℕ) (records : List (ℕ × Rec)) → start + count ≡ length file → RecordsOf revision file start count records → IsScanned revision file (record { number = length file; bytes = [] }) start records
+opened revision file start count records counted of =
+    let behind : OpenBlock = record { number = length file; bytes = [] } in
+    record {
+      ends = record { number = refl; short = omega arith };
+      pieces = of.pieces;
+      count = count;
+      counted = counted;
+      blocks = of.blocks;
+      are = same_left records of.pieces (of.pieces ++ open_piece behind ∷ []) (sym (left_none (length file) 0 of.pieces)) of.are;
+    }
 
 -- of a writing
 abbrev IsScannedNow : ℕ → Writing → Type 0
@@ -139,7 +144,7 @@ wrote revision first last [] was all = subst (IsScannedNow revision) (sym all) w
 wrote revision first last (next ∷ later) was all = wrote revision next last later (step revision first next was all.0) all.1
 
 -- where nothing is open, the blocks alone are the records
-closed : (revision : ℕ) (file : List Block) (tail : OpenBlock) (start : ℕ) (records : List (ℕ × Rec)) → tail.bytes ≡ [] → IsScanned revision file tail start records → RecordsOf revision file start (length file - start) records
+pub closed : (revision : ℕ) (file : List Block) (tail : OpenBlock) (start : ℕ) (records : List (ℕ × Rec)) → tail.bytes ≡ [] → IsScanned revision file tail start records → RecordsOf revision file start (length file - start) records
 closed revision file tail start records empty was =
     let counted = was.counted in
     let count : was.count ≡ length file - start = omega arith in

@@ -13,3 +13,4 @@ pub mod Scans
 pub mod Writing
 pub mod Unasked
 pub mod Memory
+pub mod Scanned

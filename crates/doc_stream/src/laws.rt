@@ -6,7 +6,8 @@ ghost use Rattle.doc_stream.specs.OpenBlock.{OpenBlock, PutsBytes, address_of};
 ghost use Rattle.doc_stream.specs.Reading.{RecordAt};
 ghost use Rattle.forest_model.specs.Records.{is_record, record_bytes};
 ghost use Rattle.doc_stream.specs.Runs.{RecordsOf};
-ghost use Rattle.doc_stream.specs.Writing.{Writing, Begins, Wrote};
+ghost use Rattle.doc_stream.specs.Scanned.{IsScanned};
+ghost use Rattle.doc_stream.specs.Writing.{Writing, Begins, AreOthers, Wrote};
 
 /// Whatever was put, padded, passed and restarted, in any order: once nothing is open, the records of the range are those
 /// that were put, at their addresses.
@@ -69,4 +70,33 @@ pub fn scanned_is_one()
 pub fn scanned_stays()
     ensures { (revision : ℕ) (old new : List Block) (start count : ℕ) (records : List (ℕ × Rec)) → ((at : ℕ) → start ≤ at → at < start + count → slice_get new at ≡ slice_get old at)
         → RecordsOf revision old start count records → RecordsOf revision new start count records }
+{}
+
+/// A record that is put stands behind those that the file and its open block have.
+pub fn put_is_scanned()
+    ensures { (revision : ℕ) (r : Rec) (before after : OpenBlock) (file grown : List Block) (start : ℕ) (records : List (ℕ × Rec)) → IsTrue (is_record r) → IsScanned revision file before start records
+        → PutsBytes revision (record_bytes r) before after file grown → IsScanned revision grown after start (records ++ (address_of before.number (length before.bytes), r) ∷ []) }
+{}
+
+/// The records stay when the open block is appended as it is, and an empty one is open behind it.
+pub fn pad_is_scanned()
+    ensures { (revision : ℕ) (file : List Block) (tail : OpenBlock) (start : ℕ) (records : List (ℕ × Rec)) (block : Block) → IsScanned revision file tail start records → IsSealed revision tail.number 1 tail.bytes block
+        → IsScanned revision (file ++ block ∷ []) (record { number = tail.number + 1; bytes = [] }) start records }
+{}
+
+/// Blocks of other kinds that are appended where nothing is open are passed over.
+pub fn pass_is_scanned()
+    ensures { (revision : ℕ) (file others : List Block) (tail : OpenBlock) (start : ℕ) (records : List (ℕ × Rec)) → IsScanned revision file tail start records → tail.bytes ≡ [] → AreOthers revision tail.number others
+        → IsScanned revision (file ++ others) (record { number = tail.number + length others; bytes = [] }) start records }
+{}
+
+/// Where nothing is open, the blocks alone hold the records.
+pub fn close_is_scanned()
+    ensures { (revision : ℕ) (file : List Block) (tail : OpenBlock) (start : ℕ) (records : List (ℕ × Rec)) → tail.bytes ≡ [] → IsScanned revision file tail start records → RecordsOf revision file start (length file - start) records }
+{}
+
+/// What the blocks up to a file's end hold, they hold with an empty open block behind them.
+pub fn open_is_scanned()
+    ensures { (revision : ℕ) (file : List Block) (start count : ℕ) (records : List (ℕ × Rec)) → start + count ≡ length file → RecordsOf revision file start count records
+        → IsScanned revision file (record { number = length file; bytes = [] }) start records }
 {}

@@ -16,8 +16,9 @@ mod reading;
 mod tail;
 
 pub use laws::{
-    blocks_keep_records, pads_keep_records, put_stands, puts_join, puts_keep_records,
-    scanned_is_one, scanned_stays, scanned_there, written_is_read, written_is_scanned,
+    blocks_keep_records, close_is_scanned, open_is_scanned, pad_is_scanned, pads_keep_records,
+    pass_is_scanned, put_is_scanned, put_stands, puts_join, puts_keep_records, scanned_is_one,
+    scanned_stays, scanned_there, written_is_read, written_is_scanned,
 };
 pub use reading::{read, scan};
 pub use tail::Tail;
