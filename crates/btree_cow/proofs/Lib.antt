@@ -29,4 +29,5 @@ mod Stored
 mod Copies
 mod Takes
 mod Ways
+mod Bars
 mod BlockCounts

@@ -4,6 +4,7 @@ pub mod Trees
 pub mod Causes
 pub mod Changes
 pub mod Walks
+pub mod Barred
 pub mod Finds
 pub mod Growing
 pub mod Copies
