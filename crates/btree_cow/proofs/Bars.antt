@@ -1,17 +1,17 @@
 -- A way that is barred leads through no tree that stands.
-use Rattle.std.proofs.Common.{◌≡◌, ◌⊎◌, inl, inr, ℕ, zero, suc, ◌+◌, ◌≤◌, Bool, true, false, true≢false, List, refl, sym, subst, arith}
+use Rattle.std.proofs.Common.{◌≡◌, ◌⊎◌, inl, inr, ℕ, zero, suc, ◌+◌, Bool, false, true≢false, List, refl, sym, subst, arith}
 use Rattle.std.specs.Prelude.{Option, Some, None, IfSome, IsTrue}
 use Rattle.node_page.specs.Nodes.{Entry}
 use Rattle.forest_model.specs.declared.refusal.Refusal.{Refusal}
 use Rattle.btree_cow.specs.Shelf.{Shelf}
 use Rattle.btree_cow.specs.Trees.{NodeAt, Tree}
-use Rattle.btree_cow.specs.Causes.{Way, IsNoNode, HasHighChild, IsTooDeep, BreaksTree, BreaksFrom, Reason}
+use Rattle.btree_cow.specs.Causes.{IsNoNode, IsTooDeep, Reason}
 use Rattle.std.specs.Option.{is_some}
 use Rattle.btree_cow.specs.Walks.{EndsAt, IsChoice, IsSibling, WayFor, edge}
-use Rattle.btree_cow.specs.Barred.{Bars, BreaksFind, BreaksOnWay, BreaksSearch, IsBeside, IsBroken, IsHigh, NamesBelow, NamesUnder}
+use Rattle.btree_cow.specs.Barred.{BreaksFind, BreaksOnWay, BreaksSearch, IsBeside, IsBroken, IsHigh, NamesBelow, NamesUnder}
 use Rattle.btree_cow.specs.Finds.{IsNearest, IsWithin}
 use Rattle.btree_cow.specs.declared.walk.Place.{Place}
-use Rattle.btree_cow.proofs.Breaks.{only_disk}
+use Rattle.btree_cow.proofs.Breaks.{Way, HasHighChild, BreaksTree, BreaksFrom, only_disk}
 use Rattle.btree_cow.proofs.Walking.{chosen_among, names_higher, sibling_among}
 
 way_of : (s : Shelf) (up : Bool) (q links at block : ℕ) → WayFor s up q links at block → Way s links at block
@@ -20,7 +20,7 @@ way_of s up q (suc links) at block way =
     let there = chosen_among up q way.0 way.2 way.3 way.4 in
     (way.0, there.0, way.1, there.1, subst (λ (n : ℕ). Way s links n block) (sym there.2) (way_of s up q links way.2 block way.6))
 
-way_then : (s : Shelf) (n m total at mid block : ℕ) → total ≡ n + m → Way s n at mid → Way s m mid block → Way s total at block
+pub way_then : (s : Shelf) (n m total at mid block : ℕ) → total ≡ n + m → Way s n at mid → Way s m mid block → Way s total at block
 way_then s zero m total at mid block is way way' =
     subst (λ (k : ℕ). Way s k at block) (omega (arith, is)) (subst (λ (b : ℕ). Way s m b block) (sym way) way')
 way_then s (suc n) m zero at mid block is way way' = absurd (omega (arith, is))

@@ -30,4 +30,5 @@ mod Copies
 mod Takes
 mod Ways
 mod Bars
+mod Refused
 mod BlockCounts

@@ -10,3 +10,4 @@ pub mod Growing
 pub mod Copies
 pub mod Shrinking
 pub mod Takes
+pub mod Refused

@@ -1,11 +1,9 @@
 -- What a removal makes of the nodes on its way, and what changes make of a root, on any blocks.
-use Rattle.std.specs.Prelude.{◌≡◌, ◌⊎◌, ℕ, zero, suc, ◌+◌, ◌<◌, ◌≤◌, Bool, true, false, List, [], ◌∷◌, ◌++◌, length, remove, Option, Some, None, IsTrue, Result, Ok, Err}
+use Rattle.std.specs.Prelude.{◌≡◌, ◌⊎◌, ℕ, zero, suc, ◌+◌, ◌<◌, ◌≤◌, Bool, true, false, List, [], ◌∷◌, length, remove, Option, Some, None, Result, Ok, Err}
 use Rattle.node_page.specs.Nodes.{Entry, rises}
 use Rattle.btree_cow.specs.Shelf.{Shelf, Later}
 use Rattle.btree_cow.specs.Trees.{NodeAt}
-use Rattle.block_host.specs.Disk.{risen}
 use Rattle.forest_model.specs.declared.refusal.Refusal.{Refusal}
-use Rattle.btree_cow.specs.Causes.{BreaksFrom, is_full}
 use Rattle.btree_cow.specs.Changes.{Change, without_entry}
 use Rattle.btree_cow.specs.Growing.{IsChild}
 use Rattle.btree_cow.specs.Copies.{IsMade, Inserts, node_count}
@@ -159,24 +157,3 @@ MakesChange (chunk, None) root old new after = Takes root chunk old new after
 abbrev pub Runs : List Change → Option ℕ → Shelf → Shelf → Option ℕ → Type 0
 Runs [] root old new after = (new ≡ old) × (after ≡ root)
 Runs (c ∷ changes) root old new after = (mid : Shelf) × (next : Option ℕ) × Later old mid × MakesChange c root old mid next × Runs changes next mid new after
-
--- A block that breaks the tree of the root to which the changes of before led, and which is the one handed in before the
--- first; the file only grew from there on.
-pub record BreaksRun (changes : List Change) (root : Option ℕ) (old new : Shelf) (block : ℕ) : Type 0 where
-  pub done : List Change
-  pub rest : List Change
-  pub split : changes ≡ done ++ rest
-  pub mid : Shelf
-  pub later : Later old mid
-  pub at : Option ℕ
-  pub run : Runs done root old mid at
-  pub goes_on : Later mid new
-  pub broken : BreaksFrom mid at block
-
--- The reasons not to make changes: a count of faults that rose, no room for a block more, or a block that breaks the tree
--- of the root that was handed in or to which the first of the changes led.
-abbrev pub ApplyFails : Bool → Shelf → Shelf → Option ℕ → List Change → ℕ → ℕ → Refusal → Type 0
-ApplyFails tells old new root changes before after why =
-    ((why ≡ Refusal.DiskFault) × (risen before ≤ after))
-    ⊎ ((why ≡ is_full new) × (new.most ≤ new.used))
-    ⊎ ((block : ℕ) × (why ≡ Refusal.Damaged old.file block) × (IsTrue tells → BreaksRun changes root old new block))

@@ -3,7 +3,9 @@ use Rattle.node_page.specs.Nodes.{rises}
 use Rattle.btree_cow.specs.Takes.{stored_count}
 use Rattle.btree_cow.proofs.Additions.{appends_on}
 use Rattle.btree_cow.proofs.BlockCounts.{one_stored}
+use Rattle.std.proofs.lemmas.Result.{err_from_is_err_and}
 use Rattle.btree_cow.proofs.Pairs.{led_rises}
+use Rattle.btree_cow.proofs.Refused.{short_fails}
 use Rattle.btree_cow.proofs.Removals.{absent_passed, stored_passed, short_passed}
 use Rattle.btree_cow.proofs.Takes.{passed_absent, passed_short, passed_stored}
 use Rattle.btree_cow.proofs.removing.pass_up.Goals as goal
@@ -55,3 +57,9 @@ pub returns-in_ok-refill-in-Short-clause-few : goal.returns-in_ok-refill-in-Shor
 returns-in_ok-refill-in-Short-clause-few g c =
     let none : stored_count c.args.shrunk ≡ 0 = ap stored_count c.in-Short.is in
     omega (arith, none, c.in_ok-refill-in-Short.ensures.few, c.settle-in-Short.ensures.few)
+
+pub returns-in_err-refill-in-Short-clause-reason : goal.returns-in_err-refill-in-Short-clause-reason
+returns-in_err-refill-in-Short-clause-reason g c =
+    let p = err_from_is_err_and c.from_residual.result c.from_residual.ensures.1 in
+    rw (p.1, p.2)
+    (short_fails g.P.Pages.tells c.args.shrunk c.in-Short.short c.args.node.entries.items c.args.place c.args.at (g.P.Pages.shelf c.args.pages.now) (g.P.Pages.shelf c.refill.new.pages) _ _ _ c.in-Short.is c.in_err-refill-in-Short.ensures.reason)

@@ -1,6 +1,6 @@
 use Rattle.std.proofs.Common.{sym, ◌∙◌, ap, inr, ℕ}
 use Rattle.forest_model.specs.declared.refusal.Refusal.TheVariants as Refusal
-use Rattle.btree_cow.proofs.Walking.{high_choice, low_choice}
+use Rattle.btree_cow.proofs.Walking.{high_choice}
 use Rattle.btree_cow.proofs.walk.child_of.Goals as goal
 
 pub returns-then-not-is_below-clause-reason : goal.returns-then-not-is_below-clause-reason
