@@ -207,7 +207,7 @@ pub(crate) fn refill<P: Appender>(
     requires few { length short.now.entries.items < 126 }
     requires second { IsTrue (rises short.now.entries.items) }
     ensures refills { IsTrue P.tells → OnOk result (Refills short.now.leaf short.now.entries.items children.old.items place (P.shelf pages.old) (P.shelf pages.new) children.new.items) }
-    ensures refilled { IsTrue P.tells → OnOk result (Refilled short.now.leaf short.now.entries.items children.old.items place (P.shelf pages.old) (P.shelf pages.new) children.new.items) }
+    ensures refilled { IsTrue P.tells → OnOk result (Refilled at short.now.leaf short.now.entries.items children.old.items place (P.shelf pages.old) (P.shelf pages.new) children.new.items) }
     ensures rise { OnOk result (IsTrue (rises children.new.items)) }
     ensures most { OnOk result (length children.new.items ≤ length children.old.items) }
     ensures reason { IfErr result (DownFails P.tells (BreaksPair children.old.items place at (P.shelf pages.old)) at (P.shelf pages.old) (P.shelf pages.new) (P.faults pages.old) (P.faults pages.new)) }

@@ -92,7 +92,7 @@ fn pass_up<P: Appender>(
     requires rise { IsTrue (rises node.entries.items) }
     requires short { IsShort shrunk }
     ensures passes { IsTrue P.tells → node.leaf ≡ false → IfOk result (Passes node.entries.items place shrunk (P.shelf pages.old) (P.shelf pages.new)) }
-    ensures passed { IsTrue P.tells → node.leaf ≡ false → IfOk result (Passed node.entries.items place shrunk (P.shelf pages.old) (P.shelf pages.new)) }
+    ensures passed { IsTrue P.tells → node.leaf ≡ false → IfOk result (Passed at node.entries.items place shrunk (P.shelf pages.old) (P.shelf pages.new)) }
     ensures same { IfOk result (λ s. (first : Shelf) → IsSame first (P.shelf pages.old) shrunk → IsSame first (P.shelf pages.new) s) }
     ensures short { IfOk result IsShort }
     ensures reason { IfErr result (DownFails P.tells (BreaksShort shrunk node.entries.items place at (P.shelf pages.old)) at (P.shelf pages.old) (P.shelf pages.new) (P.faults pages.old) (P.faults pages.new)) }

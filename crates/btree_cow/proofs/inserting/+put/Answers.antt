@@ -67,7 +67,7 @@ pub returns-clause-copied : goal.returns-clause-copied
 returns-clause-copied g t c = λ told.
     copied_inner g.P.Pages.tells (g.P.Pages.shelf c.args.pages.now) (g.P.Pages.shelf c.read_node.new.pages) (g.P.Pages.shelf c.put.new.pages) (g.P.Pages.shelf c.store-2.new.pages) c.store-2.result c.args.left _ c.args.at c.args.chunk c.args.value
     c.in-Some.place c.in-Some.child c.in_ok-node.node.leaf c.in_ok-node.node.entries.items c.as_slice-2.result.now c.replace_child.new.children.items c.as_slice-3.result.now c.in_ok-grown.grown told
-    c.in_ok-node.ensures.kept c.in-Some.ensures.lower.0 refl c.if-node.false c.in_ok-node.ensures.node c.as_slice-2.ensures.value c.in-Some.ensures.found (c.in_ok-grown.ensures.copied told) (c.store-2.ensures.appends.later told)
+    c.in_ok-node.ensures.kept c.in-Some.ensures.lower.0 refl c.if-node.false c.in_ok-node.ensures.node c.as_slice-2.ensures.value c.in-Some.ensures.found c.in-Some.ensures.lower.1 (c.in_ok-grown.ensures.copied told) (c.store-2.ensures.appends.later told)
     c.as_slice-3.ensures.value c.replace_child.ensures (c.store-2.ensures.makes told)
 
 pub returns-in_err-node-clause-few : goal.returns-in_err-node-clause-few

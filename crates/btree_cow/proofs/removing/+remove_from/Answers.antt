@@ -57,7 +57,7 @@ pub returns-clause-taken : goal.returns-clause-taken
 returns-clause-taken g t c = λ told.
     taken_inner g.P.Pages.tells (g.P.Pages.shelf c.args.pages.now) (g.P.Pages.shelf c.read_node.new.pages) (g.P.Pages.shelf c.remove_from.new.pages) (g.P.Pages.shelf c.pass_up.new.pages) c.pass_up.result c.args.left _ c.args.at c.args.chunk c.in-Some.place c.in-Some.child
     c.in_ok-node.node.leaf c.in_ok-node.node.entries.items c.as_slice.result.now c.in_ok-shrunk.shrunk told c.in_ok-node.ensures.kept c.in-Some.ensures.lower.0 refl c.if-node.false c.in_ok-node.ensures.node c.as_slice.ensures.value
-    c.in-Some.ensures.found (c.in_ok-shrunk.ensures.taken told) (c.pass_up.ensures.appends.later told) (c.pass_up.ensures.passed told c.if-node.false)
+    c.in-Some.ensures.found c.in-Some.ensures.lower.1 (c.in_ok-shrunk.ensures.taken told) (c.pass_up.ensures.appends.later told) (c.pass_up.ensures.passed told c.if-node.false)
 
 pub returns-in_err-node-clause-few : goal.returns-in_err-node-clause-few
 returns-in_err-node-clause-few g t c = λ links down. only_read (g.P.Pages.shelf c.args.pages.now) (g.P.Pages.shelf c.read_node.new.pages) (2 * links + most_stored c.from_residual.result) c.in_err-node.ensures.kept

@@ -30,16 +30,16 @@ pub returns-in_ok-refill-in-Short-clause-appends : goal.returns-in_ok-refill-in-
 returns-in_ok-refill-in-Short-clause-appends g c = appends_on _ _ _ _ _ _ _ c.in_ok-refill-in-Short.ensures.appends c.settle-in-Short.ensures.appends
 
 pub returns-in-Absent-clause-passed : goal.returns-in-Absent-clause-passed
-returns-in-Absent-clause-passed g c = λ told is. passed_absent (g.P.Pages.shelf c.args.pages.now) c.args.node.entries.items c.args.place c.args.shrunk c.in-Absent.is
+returns-in-Absent-clause-passed g c = λ told is. passed_absent c.args.at (g.P.Pages.shelf c.args.pages.now) c.args.node.entries.items c.args.place c.args.shrunk c.in-Absent.is
 
 pub returns-in-Stored-clause-passed : goal.returns-in-Stored-clause-passed
 returns-in-Stored-clause-passed g c = λ told is.
-    passed_stored (g.P.Pages.shelf c.args.pages.now) (g.P.Pages.shelf c.settle.new.pages) c.settle.result c.args.node.leaf c.args.node.entries.items c.lead_to.new.children.items c.args.place c.in-Stored.block c.args.shrunk
+    passed_stored c.args.at (g.P.Pages.shelf c.args.pages.now) (g.P.Pages.shelf c.settle.new.pages) c.settle.result c.args.node.leaf c.args.node.entries.items c.lead_to.new.children.items c.args.place c.in-Stored.block c.args.shrunk
     is c.in-Stored.is c.lead_to.ensures (c.settle.ensures.settled told)
 
 pub returns-in_ok-refill-in-Short-clause-passed : goal.returns-in_ok-refill-in-Short-clause-passed
 returns-in_ok-refill-in-Short-clause-passed g c = λ told is.
-    passed_short (g.P.Pages.shelf c.args.pages.now) (g.P.Pages.shelf c.refill.new.pages) (g.P.Pages.shelf c.settle-in-Short.new.pages) c.settle-in-Short.result c.args.node.leaf c.args.node.entries.items c.refill.new.children.items c.args.place
+    passed_short c.args.at (g.P.Pages.shelf c.args.pages.now) (g.P.Pages.shelf c.refill.new.pages) (g.P.Pages.shelf c.settle-in-Short.new.pages) c.settle-in-Short.result c.args.node.leaf c.args.node.entries.items c.refill.new.children.items c.args.place
     c.args.shrunk c.in-Short.short is c.in-Short.is (c.settle-in-Short.ensures.appends.later told) (c.in_ok-refill-in-Short.ensures.refilled told) (c.settle-in-Short.ensures.settled told)
 
 pub returns-in-Absent-clause-few : goal.returns-in-Absent-clause-few
