@@ -1,13 +1,12 @@
--- What additions of nodes to a file come to, and why one fails.
-use Rattle.std.proofs.Common.{◌≡◌, ◌⊎◌, inl, inr, ℕ, zero, suc, ◌<◌, ◌≤◌, ◌-◌, Bool, true, false, List, [], ◌∷◌, ◌++◌, length, refl, sym, ap, ◌∙◌, subst, arith, true≢false}
+-- What additions of nodes to a file come to.
+use Rattle.std.proofs.Common.{◌≡◌, ℕ, zero, suc, ◌≤◌, Bool, true, false, List, [], ◌∷◌, ◌++◌, length, refl, sym, ap, ◌∙◌, subst, arith, true≢false}
 use Rattle.std.specs.Prelude.{Option, Some, IsTrue, slice_get}
-use Rattle.forest_model.specs.declared.refusal.Refusal.{Refusal}
 use Rattle.node_page.specs.Nodes.{Entry, rises}
 use Rattle.btree_cow.specs.Shelf.{Shelf, Later, LieBelow}
 use Rattle.btree_cow.specs.Trees.{lies_in, NodeAt}
-use Rattle.btree_cow.specs.Causes.{IsAmong, IsNoNode, Reason, Way}
+use Rattle.btree_cow.specs.Causes.{IsAmong}
 use Rattle.btree_cow.specs.Changes.{with_entry, StaysWell, SameLimits}
-use Rattle.btree_cow.specs.Growing.{AddsNode, Appends, BreaksBelow, Holds, IsChild, PutFails, Puts, Stands, Stores, first_chunk, with_child}
+use Rattle.btree_cow.specs.Growing.{AddsNode, Appends, Holds, IsChild, Puts, Stands, Stores, first_chunk, with_child}
 use Rattle.btree_cow.specs.declared.grown.Grown.{Grown}
 use Rattle.btree_cow.specs.declared.grown.Grown.TheVariants.{Two}
 use Rattle.btree_cow.proofs.WithEntries.{with_all, with_long}
@@ -86,25 +85,7 @@ puts_inner old mid new at chunk value place child content grown result lie lie' 
           inner_step ok old mid new height least low chunk value place child high content entries grown result lie' later well okay here node.2.rise c h.0 h.1 puts stores;
     }
 
--- ---- why a put fails
-
-pub read_fails : (tells : Bool) (left at : ℕ) (old new : Shelf) (before after : ℕ) (why : Refusal) → Reason tells old.file (λ block. (block ≡ at) × IsNoNode old at) before after why → PutFails tells left at old new before after why
-read_fails tells left at old new before after why (inl disk) = inl (inl disk)
-read_fails tells left at old new before after why (inr damaged) =
-    inr (
-      damaged.0,
-      damaged.1,
-      λ told.
-          let it = damaged.2 told in
-          subst (λ (n : ℕ). BreaksBelow old left at n) (sym it.0) (record { depth = 0; reached = refl; shallow = omega arith; broken = inl it.1 }),
-    )
-
-pub none_fails : (tells : Bool) (left at : ℕ) (old new : Shelf) (before after : ℕ) (children : List Entry) → (IsTrue tells → NodeAt old at false children) → (left ≡ 0) ⊎ ((c : Entry) × IsAmong c children × (at ≤ c.1))
-    → PutFails tells left at old new before after (Refusal.Damaged old.file at)
-none_fails tells left at old new before after children node (inl deep) =
-    inr (at, refl, λ told. record { depth = 0; reached = refl; shallow = omega arith; broken = inr (inr (omega arith, children, node told)) })
-none_fails tells left at old new before after children node (inr high) =
-    inr (at, refl, λ told. record { depth = 0; reached = refl; shallow = omega arith; broken = inr (inl (children, high.0, node told, high.1, high.2)) })
+-- ---- children
 
 -- the chosen child is among the children
 pub chosen_among : (children : List Entry) (chunk n block : ℕ) (c : IsChild children chunk n block) → IsAmong c.cut.chosen children
@@ -115,27 +96,3 @@ chosen_among children chunk n block c =
     got : (before : List Entry) → slice_get (before ++ c.cut.chosen ∷ c.cut.after) (length before) ≡ Some c.cut.chosen
     got [] = refl
     got (x ∷ before) = got before
-
-pub child_fails : (tells : Bool) (left rest at chunk place child : ℕ) (old new : Shelf) (before after : ℕ) (why : Refusal) (children : List Entry) → 0 < left → rest ≡ left - 1 → (IsTrue tells → NodeAt old at false children) → IsChild children chunk place child
-    → PutFails tells rest child old new before after why → PutFails tells left at old new before after why
-child_fails tells left rest at chunk place child old new before after why children some less node c (inl fails) = inl fails
-child_fails tells left rest at chunk place child old new before after why children some less node c (inr damaged) =
-    inr (
-      damaged.0,
-      damaged.1,
-      λ told.
-          let b = damaged.2 told in
-          let way : Way old b.depth c.cut.chosen.1 damaged.0 = subst (λ (n : ℕ). Way old b.depth n damaged.0) (sym c.leads) b.reached in
-          record {
-            depth = suc b.depth;
-            reached = (children, c.cut.chosen, node told, chosen_among children chunk place child c, way);
-            shallow = omega (arith, b.shallow);
-            broken = elim b.broken [
-              | inl none ↦ inl none
-              | inr other ↦ elim other [
-                | inl high ↦ inr (inl high)
-                | inr deep ↦ inr (inr (omega (arith, deep.0), deep.1, deep.2))
-              ]
-            ];
-          },
-    )

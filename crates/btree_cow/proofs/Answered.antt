@@ -4,11 +4,9 @@ use Rattle.std.specs.Prelude.{Option, Some, None, nat_lt, ◌==◌, find, if◌t
 use Rattle.std.specs.List.{list_all}
 use Rattle.std.specs.Option.{option_or, option_map, is_some}
 use Rattle.std.proofs.lemmas.Bool.{and_parts, cases_Bool, or_left, eq-eqb, eqb-true, true≢false}
-use Rattle.forest_model.specs.declared.refusal.Refusal.{Refusal}
 use Rattle.node_page.specs.Nodes.{Entry, rises}
 use Rattle.btree_cow.specs.Shelf.{Shelf}
 use Rattle.btree_cow.specs.Trees.{is_past, nearest, value_of}
-use Rattle.btree_cow.specs.Causes.{BreaksTree, BreaksFrom, Reason}
 use Rattle.btree_cow.specs.Finds.{Finds, block_of, value_in}
 use Rattle.btree_cow.specs.Walks.{EndsAt, GoesOnIn, HasValue, Reaches, ReachesBeside, ReadsNext, ReadsValue, edge}
 use Rattle.btree_cow.specs.declared.walk.Place.{Place}
@@ -85,14 +83,3 @@ goes_on s mid with up above q None second place entry last none is kept all same
     let r4 : Reaches s true up q place.at entry = subst (λ (b : Bool). Reaches s true b q place.at entry) same r3 in
     let r5 : Reaches s true up (edge up) place.at entry = subst (λ (n : ℕ). Reaches s true up n place.at entry) at_edge r4 in
     subst (λ (o : Option Place). GoesOnIn s up None (block_of o) entry) (sym is) r5
-
--- ---- the reasons
-
-pub reason_from : (tells : Bool) (s : Shelf) (file before after at : ℕ) (root : Option ℕ) (why : Refusal) → root ≡ Some at → Reason tells file (BreaksTree s at) before after why → Reason tells file (BreaksFrom s root) before after why
-reason_from tells s file before after at root why is (inl disk) = inl disk
-reason_from tells s file before after at root why is (inr damaged) = inr (damaged.0, damaged.1, λ told. (at, is, damaged.2 told))
-
--- of a second walk, in the same blocks and at the same count of faults
-pub reason_then : (tells : Bool) (s mid : Shelf) (before middle after at : ℕ) (why : Refusal) → mid ≡ s → middle ≡ before → Reason tells mid.file (BreaksTree mid at) middle after why → Reason tells s.file (BreaksTree s at) before after why
-reason_then tells s mid before middle after at why kept same r =
-    subst (λ (n : ℕ). Reason tells s.file (BreaksTree s at) n after why) same (subst (λ (m : Shelf). Reason tells m.file (BreaksTree m at) middle after why) kept r)

@@ -1,6 +1,6 @@
 -- Changes one after another.
 use Rattle.std.proofs.Common.{◌≡◌, ◌⊎◌, inl, inr, sym, ap, ◌++◌, append_assoc, ℕ, ◌<◌, ◌≤◌, ◌+◌, ◌*◌, Bool, true, true≢false, List, [], ◌∷◌, length, drop, get_or, refl, ◌∙◌, subst, arith}
-use Rattle.std.specs.Prelude.{Option, Some, None, IsTrue, Result, IfOk}
+use Rattle.std.specs.Prelude.{Option, Some, None, IsTrue, Result, Ok, Err, IfOk, IfErr}
 use Rattle.std.specs.List.{list_all}
 use Rattle.std.specs.Option.{is_none}
 use Rattle.std.proofs.lemmas.Bool.{and_parts}
@@ -13,8 +13,9 @@ use Rattle.btree_cow.specs.Shelf.{Shelf, Later}
 use Rattle.btree_cow.specs.Trees.{Tree, value_of}
 use Rattle.btree_cow.specs.Causes.{is_full}
 use Rattle.btree_cow.specs.Copies.{Inserts}
-use Rattle.btree_cow.specs.Takes.{ApplyFails, MakesChange, Runs, Takes}
-use Rattle.btree_cow.specs.Changes.{Change, ChangeFails, SameLimits, is_absent, StaysWell, after_change, after_changes, is_well, put_well}
+use Rattle.btree_cow.specs.Takes.{MakesChange, Runs, Takes}
+use Rattle.btree_cow.specs.Refused.{BreaksChange, BreaksPut, BreaksRun, BreaksTake, ChangeFails}
+use Rattle.btree_cow.specs.Changes.{Change, SameLimits, is_absent, StaysWell, after_change, after_changes, is_well, put_well}
 use Rattle.btree_cow.proofs.Finds.{all_so}
 use Rattle.btree_cow.proofs.Growth.{later_on, later_same}
 use Rattle.btree_cow.proofs.Contents.{any_value, any_well, root_any}
@@ -92,15 +93,45 @@ left_few tells old mid new x y root at changes n less a few =
     subst (λ (l : List Change). Applies tells old mid x y root at changes l) (drop_more changes n (0, None) less) a in
     omega (arith, b.few, few)
 
-pub left_fails : (tells : Bool) (old mid new : Shelf) (x y z : ℕ) (root at : Option ℕ) (changes rest : List Change) (why : Refusal) → Applies tells old mid x y root at changes rest → (IsTrue tells → Later mid new) → ChangeFails tells mid new at y z why → ApplyFails tells old new root changes x z why
-left_fails tells old mid new x y z root at changes rest why a goes_on (inl disk) = inl (disk.0, subst (λ (n : ℕ). risen n ≤ z) a.same disk.1)
-left_fails tells old mid new x y z root at changes rest why a goes_on (inr (inl full)) = inr (inl full)
-left_fails tells old mid new x y z root at changes rest why a goes_on (inr (inr damaged)) =
-    inr (
+pub put_bars : (change : Change) (root : Option ℕ) (s : Shelf) (value block : ℕ) → change.1 ≡ Some value → BreaksPut s root change.0 block → BreaksChange s root change block
+put_bars (chunk, None) root s value block is b = absurd (none-some value is)
+put_bars (chunk, Some other) root s value block is b = b
+
+pub take_bars : (change : Change) (root : Option ℕ) (s : Shelf) (block : ℕ) → change.1 ≡ None → BreaksTake s root change.0 block → BreaksChange s root change block
+take_bars (chunk, None) root s block is b = b
+take_bars (chunk, Some other) root s block is b = absurd (none-some other (sym is))
+
+pub fails_so : (tells : Bool) (P Q : ℕ → Type 0) (old new : Shelf) (before after : ℕ) (why : Refusal) → ((block : ℕ) → P block → Q block) → ChangeFails tells P old new before after why → ChangeFails tells Q old new before after why
+fails_so tells P Q old new before after why so (inl disk) = inl disk
+fails_so tells P Q old new before after why so (inr (inl full)) = inr (inl full)
+fails_so tells P Q old new before after why so (inr (inr damaged)) = inr (inr (damaged.0, damaged.1, λ told. so damaged.0 (damaged.2 told)))
+
+pub result_so : {A : Type 0} (r : Result A Refusal) (tells : Bool) (P Q : ℕ → Type 0) (old new : Shelf) (before after : ℕ) → ((block : ℕ) → P block → Q block) → IfErr r (ChangeFails tells P old new before after)
+    → IfErr r (ChangeFails tells Q old new before after)
+result_so (Ok a) tells P Q old new before after so fails = fails
+result_so (Err why) tells P Q old new before after so fails = fails_so tells P Q old new before after why so fails
+
+pub left_fails : (tells : Bool) (old mid new : Shelf) (x y z : ℕ) (root at : Option ℕ) (changes : List Change) (n : ℕ) (d : Change) (why : Refusal) → n < length changes → Applies tells old mid x y root at changes (drop n changes)
+    → (IsTrue tells → Later mid new) → ChangeFails tells (BreaksChange mid at (get_or changes n d)) mid new y z why → ChangeFails tells (BreaksRun changes root old new) old new x z why
+left_fails tells old mid new x y z root at changes n d why less a goes_on (inl disk) = inl (disk.0, subst (λ (n : ℕ). risen n ≤ z) a.same disk.1)
+left_fails tells old mid new x y z root at changes n d why less a goes_on (inr (inl full)) = inr (inl full)
+left_fails tells old mid new x y z root at changes n d why less a goes_on (inr (inr damaged)) = inr (
     inr (
       damaged.0,
       damaged.1 ∙ ap (λ (f : ℕ). Refusal.Damaged f damaged.0) a.limits.file,
-      λ told. record { done = a.done; rest = rest; split = a.split; mid = mid; later = a.later told; at = at; run = a.run told; goes_on = goes_on told; broken = damaged.2 told },
+      λ told.
+          record {
+            done = a.done;
+            change = get_or changes n d;
+            rest = drop (n + 1) changes;
+            split = a.split ∙ ap (λ (l : List Change). a.done ++ l) (drop_more changes n d less);
+            mid = mid;
+            later = a.later told;
+            at = at;
+            run = a.run told;
+            goes_on = goes_on told;
+            broken = damaged.2 told;
+          },
     ))
 
 -- ---- one change more

@@ -1,5 +1,5 @@
 -- No block breaks a tree that stands.
-use Rattle.std.proofs.Common.{◌≡◌, inl, inr, ℕ, zero, suc, ◌<◌, ◌≤◌, ◌+◌, Bool, true, false, List, [], ◌∷◌, sym, ap, ◌∙◌, subst, arith, true≢false}
+use Rattle.std.proofs.Common.{◌≡◌, ◌⊎◌, inl, inr, ℕ, zero, suc, ◌<◌, ◌≤◌, ◌+◌, Bool, true, false, List, [], ◌∷◌, sym, ap, ◌∙◌, subst, arith, true≢false}
 use Rattle.std.specs.Prelude.{Option, Some, None, IsTrue, slice_get}
 use Rattle.std.proofs.lemmas.Option.{none-some, same_Some}
 use Rattle.forest_model.specs.declared.refusal.Refusal.{Refusal}
@@ -7,9 +7,29 @@ use Rattle.node_page.specs.Nodes.{Entry, IsNode}
 use Rattle.node_page.specs.declared.page.Page.{Page}
 use Rattle.btree_cow.specs.Shelf.{Shelf, Stored}
 use Rattle.btree_cow.specs.Trees.{Fan, NodeAt, TreeAt, Tree, border}
-use Rattle.btree_cow.specs.Causes.{Way, IsNoNode, HasHighChild, IsTooDeep, BreaksTree, BreaksFrom, Reason}
+use Rattle.btree_cow.specs.Causes.{IsAmong, IsNoNode, IsTooDeep, Reason}
 use Rattle.btree_cow.proofs.OneNode.{one_node}
 use Rattle.btree_cow.proofs.Depths.{most_high}
+
+-- so many links lead down from a block to another, from inner nodes to their children
+abbrev pub Way : Shelf → ℕ → ℕ → ℕ → Type 0
+Way s zero at block = at ≡ block
+Way s (suc more) at block = (children : List Entry) × (c : Entry) × NodeAt s at false children × IsAmong c children × Way s more c.1 block
+
+-- a block is an inner node with a child that isn't below it
+abbrev pub HasHighChild : Shelf → ℕ → Type 0
+HasHighChild s at = (children : List Entry) × (c : Entry) × NodeAt s at false children × IsAmong c children × (at ≤ c.1)
+
+-- A block on a way of at most nine links from the root, by which there is no tree.
+pub record BreaksTree (s : Shelf) (root block : ℕ) : Type 0 where
+  pub depth : ℕ
+  pub reached : Way s depth root block
+  pub shallow : depth ≤ 9
+  pub broken : IsNoNode s block ⊎ HasHighChild s block ⊎ IsTooDeep s depth block
+
+-- a root by whose tree a block breaks
+abbrev pub BreaksFrom : Shelf → Option ℕ → ℕ → Type 0
+BreaksFrom s root block = (at : ℕ) × (root ≡ Some at) × BreaksTree s at block
 
 pub one_at : (s : Shelf) (at : ℕ) (leaf leaf' : Bool) (es fs : List Entry) → NodeAt s at leaf es → NodeAt s at leaf' fs → (leaf ≡ leaf') × (es ≡ fs)
 one_at s at leaf leaf' es fs node node' =

@@ -10,7 +10,7 @@ use Rattle.btree_cow.specs.Growing.{AddsNode, IsChild, IsRead, first_chunk, with
 use Rattle.btree_cow.specs.Copies.{IsMade, Makes, PutsAlong, Copied, Inserts, node_count}
 use Rattle.btree_cow.specs.declared.grown.Grown.{Grown}
 use Rattle.btree_cow.specs.declared.grown.Grown.TheVariants.{One, Two}
-use Rattle.btree_cow.proofs.Growth.{node_later}
+use Rattle.btree_cow.proofs.Growth.{later_same, node_later}
 
 pub on_ok : {A E : Type 0} (r : Result A E) (P Q : A → Type 0) → ((a : A) → P a → Q a) → IfOk r P → IfOk r Q
 on_ok (Ok a) P Q so h = so a h
@@ -25,7 +25,7 @@ added_node leaf content old new at added = (added.page, added.adds.there, added.
 -- ---- a node that is stored
 
 pub makes_one : (leaf : Bool) (content : List Entry) (old new : Shelf) (at : ℕ) → AddsNode leaf content old new at → Makes leaf content old new (One at)
-makes_one leaf content old new at added = record { made = added_node leaf content old new at added; used = added.adds.one_more }
+makes_one leaf content old new at added = record { made = (added_node leaf content old new at added, omega (arith, added.adds.at_end)); used = added.adds.one_more }
 
 pub makes_two : (leaf : Bool) (content front back : List Entry) (old mid new : Shelf) (left right a b : ℕ) → content ≡ front ++ back → 254 ≤ length content → length front ≡ length content / 2
     → AddsNode leaf front old mid left → AddsNode leaf back mid new right → a ≡ first_chunk front → b ≡ first_chunk back → Makes leaf content old new (Two (a, left) (b, right))
@@ -41,15 +41,17 @@ makes_two leaf content front back old mid new left right a b split many half one
         right_chunk = is';
         left_node = node_later mid new left leaf front two.adds.later (added_node leaf front old mid left one);
         right_node = added_node leaf back mid new right two;
+        left_new = omega (arith, one.adds.at_end);
+        right_new = omega (arith, two.adds.at_end, one.adds.one_more);
       };
       used = omega (arith, one.adds.one_more, two.adds.one_more);
     }
 
 -- ---- down the way
 
-pub made_later : (mid new : Shelf) (leaf : Bool) (content : List Entry) (grown : Grown) → Later mid new → IsMade mid leaf content grown → IsMade new leaf content grown
-made_later mid new leaf content (One at) later made = node_later mid new at leaf content later made
-made_later mid new leaf content (Two left right) later made = record {
+pub made_later : (low from : ℕ) (mid new : Shelf) (leaf : Bool) (content : List Entry) (grown : Grown) → low ≤ from → Later mid new → IsMade from mid leaf content grown → IsMade low new leaf content grown
+made_later low from mid new leaf content (One at) less later made = (node_later mid new at leaf content later made.0, omega (arith, less, made.1))
+made_later low from mid new leaf content (Two left right) less later made = record {
   front = made.front;
   back = made.back;
   split = made.split;
@@ -59,12 +61,17 @@ made_later mid new leaf content (Two left right) later made = record {
   right_chunk = made.right_chunk;
   left_node = node_later mid new left.1 leaf made.front later made.left_node;
   right_node = node_later mid new right.1 leaf made.back later made.right_node;
+  left_new = omega (arith, less, made.left_new);
+  right_new = omega (arith, less, made.right_new);
 }
 
+made_from : (low from : ℕ) (s : Shelf) (leaf : Bool) (content : List Entry) (grown : Grown) → low ≤ from → IsMade from s leaf content grown → IsMade low s leaf content grown
+made_from low from s leaf content grown less made = made_later low from s s leaf content grown less (later_same s) made
+
 along_later : (old mid new : Shelf) (links at chunk value : ℕ) (grown : Grown) (nodes : ℕ) → Later mid new → PutsAlong old mid links at chunk value grown nodes → PutsAlong old new links at chunk value grown nodes
-along_later old mid new zero at chunk value grown nodes later p = (p.0, p.1, made_later mid new true (with_entry p.0 chunk value) grown later p.2, p.3)
+along_later old mid new zero at chunk value grown nodes later p = (p.0, p.1, made_later old.used old.used mid new true (with_entry p.0 chunk value) grown (omega arith) later p.2, p.3)
 along_later old mid new (suc links) at chunk value grown nodes later p =
-    (p.0, p.1, p.2, p.3, p.4, p.5, p.6, along_later old mid new links p.3 chunk value p.5 p.6 later p.7, made_later mid new false (with_child p.0 p.2 chunk p.5) grown later p.8, p.9)
+    (p.0, p.1, p.2, p.3, p.4, p.5, p.6, p.7, along_later old mid new links p.3 chunk value p.6 p.7 later p.8, made_later old.used old.used mid new false (with_child p.0 p.2 chunk p.6) grown (omega arith) later p.9, p.10)
 
 pub copied_leaf : (tells : Bool) (old mid new : Shelf) (r : Result Grown Refusal) (left at chunk value : ℕ) (leaf : Bool) (content items slice : List Entry) → IsTrue tells → mid ≡ old → leaf ≡ true → IsRead tells old at leaf content
     → slice ≡ items → items ≡ with_entry content chunk value → IfOk r (Makes true slice mid new) → IfOk r (Copied left at chunk value old new)
@@ -75,15 +82,15 @@ copied_leaf tells old mid new r left at chunk value leaf content items slice tol
       links = 0;
       few = omega arith;
       nodes = node_count g;
-      along = (content, told_node tells old at leaf true content told is read, subst (λ (l : List Entry). IsMade new true l g) (same ∙ put) m.made, refl);
+      along = (content, told_node tells old at leaf true content told is read, subst (λ (l : List Entry). IsMade old.used new true l g) (same ∙ put) (subst (λ (s : Shelf). IsMade s.used new true slice g) kept m.made), refl);
       used = subst (λ (s : Shelf). new.used ≡ s.used + node_count g) kept m.used;
     })
     makes
 
 pub copied_inner : (tells : Bool) (old mid mid' new : Shelf) (r : Result Grown Refusal) (left rest at chunk value place child : ℕ) (leaf : Bool) (content children items slice : List Entry) (grown : Grown) → IsTrue tells → mid ≡ old → 0 < left → rest ≡ left - 1
-    → leaf ≡ false → IsRead tells old at leaf content → children ≡ content → IsChild children chunk place child → Copied rest child chunk value mid mid' grown → Later mid' new
+    → leaf ≡ false → IsRead tells old at leaf content → children ≡ content → IsChild children chunk place child → child < at → Copied rest child chunk value mid mid' grown → Later mid' new
     → slice ≡ items → items ≡ with_child content place chunk grown → IfOk r (Makes false slice mid' new) → IfOk r (Copied left at chunk value old new)
-copied_inner tells old mid mid' new r left rest at chunk value place child leaf content children items slice grown told kept some less is read same c below later got put makes =
+copied_inner tells old mid mid' new r left rest at chunk value place child leaf content children items slice grown told kept some less is read same c low below later got put makes =
     let b : Copied rest child chunk value old mid' grown = subst (λ (s : Shelf). Copied rest child chunk value s mid' grown) kept below in
     on_ok r (Makes false slice mid' new) (Copied left at chunk value old new)
     (λ g m.
@@ -97,10 +104,11 @@ copied_inner tells old mid mid' new r left rest at chunk value place child leaf 
         place,
         child,
         subst (λ (l : List Entry). IsChild l chunk place child) same c,
+        low,
         grown,
         b.nodes,
         along_later old mid' new b.links child chunk value grown b.nodes later b.along,
-        subst (λ (l : List Entry). IsMade new false l g) (got ∙ put) m.made,
+        subst (λ (l : List Entry). IsMade old.used new false l g) (got ∙ put) (made_from old.used mid'.used new false slice g (omega (arith, b.used)) m.made),
         refl,
       );
       used = omega (arith, b.used, m.used);

@@ -1,5 +1,5 @@
 -- Children of which one isn't stored, and what is joined with it.
-use Rattle.std.proofs.Common.{◌≡◌, inl, inr, ℕ, suc, ◌<◌, ◌≤◌, ◌+◌, Bool, true, false, List, [], ◌∷◌, ◌++◌, length, refl, sym, ap, ◌∙◌, subst, arith, append_assoc, append-nil, length-append, true≢false}
+use Rattle.std.proofs.Common.{◌≡◌, ℕ, suc, ◌<◌, ◌≤◌, ◌+◌, Bool, true, false, List, [], ◌∷◌, ◌++◌, length, refl, sym, ap, ◌∙◌, subst, arith, append_assoc, append-nil, length-append, true≢false}
 use Rattle.std.specs.Prelude.{Option, Some, None, IsTrue, Result, Ok, Err, OnOk}
 use Rattle.std.specs.List.{list_all}
 use Rattle.std.proofs.lemmas.Bool.{and_parts, and_from, ltb-true, lt-ltb}
@@ -7,10 +7,9 @@ use Rattle.forest_model.specs.declared.refusal.Refusal.{Refusal}
 use Rattle.node_page.specs.Nodes.{Entry, rises}
 use Rattle.btree_cow.specs.Shelf.{Shelf, Later, LieBelow}
 use Rattle.btree_cow.specs.Trees.{lies_in, border, Fan, NodeAt, TreeAt}
-use Rattle.btree_cow.specs.Causes.{IsNoNode, Reason}
 use Rattle.btree_cow.specs.Changes.{StaysWell}
 use Rattle.btree_cow.specs.Growing.{IsRead, Stands, Stores}
-use Rattle.btree_cow.specs.Shrinking.{Content, Gap, IsNeighbour, IsPair, RefillFails, Refills, first_place, side_by_side, with_joined}
+use Rattle.btree_cow.specs.Shrinking.{Content, Gap, IsNeighbour, IsPair, Refills, first_place, side_by_side, with_joined}
 use Rattle.btree_cow.specs.declared.grown.Grown.{Grown}
 use Rattle.btree_cow.specs.declared.grown.Grown.TheVariants.{One, Two}
 use Rattle.btree_cow.proofs.Finds.{all_front, all_back, all_both}
@@ -19,7 +18,7 @@ use Rattle.btree_cow.proofs.Fans.{fan_split, tree_inside, tree_some}
 use Rattle.btree_cow.proofs.WithEntries.{is_over, over_more}
 use Rattle.btree_cow.proofs.Growth.{tree_later, tree_lower, tree_below, fan_over, under_next, rises_back}
 use Rattle.btree_cow.proofs.Contents.{content_holds, content_of, contents_join, content_lies, fans_join, one_height, rises_join}
-use Rattle.btree_cow.proofs.Pairs.{FitsIn, joined_at, neighbour_among, put_in, same_split}
+use Rattle.btree_cow.proofs.Pairs.{FitsIn, joined_at, put_in, same_split}
 
 -- ---- borders
 
@@ -336,22 +335,3 @@ pub alone_gap : (tells : Bool) (old new : Shelf) (r : Result (Unit {0}) Refusal)
 alone_gap tells old new (Ok u) leaf leaf' content other children read after place block in_front told lie rise rise_own same is node none =
     never_alone old new leaf leaf' content other children after place block in_front lie rise rise_own node.rise (subst (λ (l : List Entry). IsNeighbour l place in_front block) same is) (node.node told) none
 alone_gap tells old new (Err e) leaf leaf' content other children read after place block in_front told lie rise rise_own same is node none = tt
-
-pub neighbour_fails : (tells : Bool) (old new : Shelf) (before after : ℕ) (children read : List Entry) (up place at : ℕ) (in_front : Bool) (why : Refusal) → read ≡ children → IsNeighbour read place in_front at
-    → Reason tells old.file (λ block. (block ≡ at) × IsNoNode old at) before after why → RefillFails tells children up old new before after why
-neighbour_fails tells old new before after children read up place at in_front why same is (inl disk) = inl (inl disk)
-neighbour_fails tells old new before after children read up place at in_front why same is (inr damaged) =
-    let found = neighbour_among children place in_front at (subst (λ (l : List Entry). IsNeighbour l place in_front at) same is) in
-    inr (
-      damaged.0,
-      damaged.1,
-      λ told.
-          let it = damaged.2 told in
-          inl (found.0, found.1, found.2 ∙ sym it.0, subst (λ (n : ℕ). IsNoNode old n) (sym it.0) it.1),
-    )
-
-pub high_fails : (tells : Bool) (old new : Shelf) (before after : ℕ) (children read : List Entry) (up place at file : ℕ) (in_front : Bool) → read ≡ children → IsNeighbour read place in_front at → file ≡ old.file → up ≤ at
-    → RefillFails tells children up old new before after (Refusal.Damaged file up)
-high_fails tells old new before after children read up place at file in_front same is here above =
-    let found = neighbour_among children place in_front at (subst (λ (l : List Entry). IsNeighbour l place in_front at) same is) in
-    inr (up, ap (λ (f : ℕ). Refusal.Damaged f up) here, λ told. inr (refl, found.0, found.1, omega (arith, above, found.2)))

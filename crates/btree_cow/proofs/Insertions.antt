@@ -1,5 +1,5 @@
 -- The steps of an insert, as the code has them.
-use Rattle.std.proofs.Common.{◌≡◌, ◌⊎◌, inl, inr, ℕ, suc, ◌<◌, ◌≤◌, ◌-◌, Bool, true, false, List, [], ◌∷◌, length, refl, sym, ap, ◌∙◌, subst, arith, append-nil}
+use Rattle.std.proofs.Common.{◌≡◌, ℕ, suc, ◌<◌, ◌≤◌, Bool, true, false, List, [], ◌∷◌, length, refl, sym, ap, ◌∙◌, subst, arith, append-nil}
 use Rattle.std.specs.Prelude.{Option, Some, None, IsTrue, Result, Ok, Err, IfOk}
 use Rattle.std.specs.List.{list_all}
 use Rattle.std.proofs.lemmas.Bool.{and_from}
@@ -7,17 +7,15 @@ use Rattle.forest_model.specs.declared.refusal.Refusal.{Refusal}
 use Rattle.node_page.specs.Nodes.{Entry, rises}
 use Rattle.btree_cow.specs.Shelf.{Shelf, Later, LieBelow}
 use Rattle.btree_cow.specs.Trees.{lies_in, NodeAt, Tree}
-use Rattle.btree_cow.specs.Causes.{IsAmong, BreaksTree, is_full}
-use Rattle.btree_cow.specs.Changes.{with_entry, StaysWell, ChangeFails}
-use Rattle.btree_cow.specs.Growing.{AddsNode, BreaksBelow, Holds, IsApart, IsChild, IsRead, PutFails, Puts, Stands, Stores, with_child}
+use Rattle.btree_cow.specs.Changes.{with_entry, StaysWell}
+use Rattle.btree_cow.specs.Growing.{AddsNode, Holds, IsApart, IsChild, IsRead, Puts, Stands, Stores, with_child}
 use Rattle.btree_cow.specs.declared.grown.Grown.{Grown}
 use Rattle.btree_cow.specs.declared.grown.Grown.TheVariants.{Two}
 use Rattle.btree_cow.proofs.Borders.{lies}
-use Rattle.btree_cow.proofs.Breaks.{never_breaks}
 use Rattle.btree_cow.proofs.WithEntries.{with_rises}
 use Rattle.btree_cow.proofs.Growth.{added_tree, tree_below}
 use Rattle.btree_cow.proofs.ChildPlaces.{child_long, child_rises}
-use Rattle.btree_cow.proofs.Additions.{puts_leaf, puts_inner, none_fails, child_fails}
+use Rattle.btree_cow.proofs.Additions.{puts_leaf, puts_inner}
 
 on_ok : {A E : Type 0} (r : Result A E) (P Q : A → Type 0) → ((a : A) → P a → Q a) → IfOk r P → IfOk r Q
 on_ok (Ok a) P Q so h = so a h
@@ -63,36 +61,6 @@ inner_put tells old mid mid' new r at chunk value place child leaf content child
     (subst (λ (l : List Entry). IsChild l chunk place child) same c) (subst (λ (m : Shelf). Puts child chunk value m mid' grown) kept puts)
     (subst (λ (l : List Entry). Stores false l mid' new g) (got ∙ put) s))
     stores
-
-pub nowhere_fails : (tells : Bool) (left at file before after : ℕ) (old mid : Shelf) (leaf : Bool) (content children : List Entry) → mid ≡ old → file ≡ mid.file → leaf ≡ false → IsRead tells old at leaf content → children ≡ content
-    → (left ≡ 0) ⊎ ((c : Entry) × IsAmong c children × (at ≤ c.1)) → PutFails tells left at old mid before after (Refusal.Damaged file at)
-nowhere_fails tells left at file before after old mid leaf content children kept is inner read same why =
-    subst (λ (f : ℕ). PutFails tells left at old mid before after (Refusal.Damaged f at)) (sym (is ∙ ap (λ (s : Shelf). s.file) kept))
-    (none_fails tells left at old mid before after content (λ told. told_node tells old at leaf false content told inner read)
-    (subst (λ (l : List Entry). (left ≡ 0) ⊎ ((c : Entry) × IsAmong c l × (at ≤ c.1))) same why))
-
-pub below_fails : (tells : Bool) (left rest at chunk place child x y z : ℕ) (old mid new : Shelf) (leaf : Bool) (content children : List Entry) (why : Refusal) → mid ≡ old → y ≡ x → 0 < left → rest ≡ left - 1 → leaf ≡ false → IsRead tells old at leaf content
-    → children ≡ content → IsChild children chunk place child → PutFails tells rest child mid new y z why → PutFails tells left at old new x z why
-below_fails tells left rest at chunk place child x y z old mid new leaf content children why kept same_count some less inner read same c fails =
-    child_fails tells left rest at chunk place child old new x z why content some less (λ told. told_node tells old at leaf false content told inner read)
-    (subst (λ (l : List Entry). IsChild l chunk place child) same c)
-    (subst (λ (n : ℕ). PutFails tells rest child old new n z why) same_count (subst (λ (m : Shelf). PutFails tells rest child m new y z why) kept fails))
-
--- ---- at the root
-
-from_root : (old : Shelf) (at block : ℕ) → BreaksBelow old 9 at block → BreaksTree old at block
-from_root old at block b = record { depth = b.depth; reached = b.reached; shallow = b.shallow; broken = b.broken }
-
-pub root_fails : (tells : Bool) (root : Option ℕ) (at : ℕ) (old new : Shelf) (before after : ℕ) (why : Refusal) → root ≡ Some at → PutFails tells 9 at old new before after why → ChangeFails tells old new root before after why
-root_fails tells root at old new before after why is (inl fails) = elim fails [ inl disk ↦ inl disk | inr full ↦ inr (inl full) ]
-root_fails tells root at old new before after why is (inr damaged) = inr (inr (damaged.0, damaged.1, λ told. (at, is, from_root old at damaged.0 (damaged.2 told))))
-
-pub root_stands : (tells : Bool) (ok : ℕ → ℕ → Bool) (root : Option ℕ) (at : ℕ) (old new : Shelf) (before after : ℕ) (why : Refusal) (entries : List Entry) → IsTrue tells → root ≡ Some at → Tree ok old root entries → PutFails tells 9 at old new before after why
-    → (why ≡ Refusal.DiskFault) ⊎ (why ≡ is_full new)
-root_stands tells ok root at old new before after why entries told is tree (inl fails) = elim fails [ inl disk ↦ inl disk.0 | inr full ↦ inr full.0 ]
-root_stands tells ok root at old new before after why entries told is tree (inr damaged) =
-    let here : Tree ok old (Some at) entries = subst (λ (o : Option ℕ). Tree ok old o entries) is tree in
-    absurd (never_breaks ok old here.0 1 at damaged.0 entries here.1 (from_root old at damaged.0 (damaged.2 told)))
 
 two_hold : (ok : ℕ → ℕ → Bool) (s : Shelf) (height : ℕ) (left right : Entry) (entries : List Entry) → LieBelow s → left.0 < right.0 → Stands ok s height 1 (Two left right) 0 None entries
     → Holds ok s (suc height) false (left ∷ right ∷ []) 0 None entries

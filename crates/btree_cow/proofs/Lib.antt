@@ -29,4 +29,6 @@ mod Stored
 mod Copies
 mod Takes
 mod Ways
+mod Bars
+mod Refused
 mod BlockCounts

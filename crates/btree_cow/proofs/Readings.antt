@@ -1,12 +1,13 @@
 -- What is read of a node.
-use Rattle.std.proofs.Common.{◌≡◌, inr, ℕ, zero, suc, ◌+◌, Bool, List, [], ◌∷◌, ◌++◌, take, refl, sym, ap, ◌∙◌, subst, arith}
+use Rattle.std.proofs.Common.{◌≡◌, inr, ℕ, zero, suc, ◌+◌, Bool, List, [], ◌∷◌, ◌++◌, take, sym, ap, ◌∙◌, subst, arith}
 use Rattle.std.specs.Prelude.{Some, IsTrue, slice_get}
 use Rattle.std.proofs.lemmas.Option.{none-some, same_Some}
 use Rattle.forest_model.specs.declared.refusal.Refusal.TheVariants as Refusal
 use Rattle.node_page.specs.Nodes.{Entry, IsNode}
 use Rattle.node_page.specs.declared.page.Page.{Page}
 use Rattle.btree_cow.specs.Shelf.{Shelf, Stored, is_stored}
-use Rattle.btree_cow.specs.Causes.{IsNoNode, Reason}
+use Rattle.btree_cow.specs.Barred.{NodeFails}
+use Rattle.btree_cow.specs.Causes.{IsNoNode}
 use Rattle.btree_cow.specs.Growing.{IsRead}
 
 -- one more entry of those that are read
@@ -33,6 +34,6 @@ no_node s at page given none leaf entries node =
     none leaf entries (subst (λ (p : Page). IsNode p leaf entries) same node.2)
 
 pub no_node_here : (tells : Bool) (old new : Shelf) (at file before after : ℕ) (page : Page) → (IsTrue tells → is_stored old 2 at page) → ((leaf : Bool) (entries : List Entry) → IsNode page leaf entries → ⊥) → new ≡ old → file ≡ new.file
-    → Reason tells old.file (λ block. (block ≡ at) × IsNoNode old at) before after (Refusal.Damaged file at)
+    → NodeFails tells old at before after (Refusal.Damaged file at)
 no_node_here tells old new at file before after page given none kept is =
-    inr (at, ap (λ (f : ℕ). Refusal.Damaged f at) (is ∙ ap (λ (s : Shelf). s.file) kept), λ told. (refl, no_node old at page (given told) none))
+    inr (ap (λ (f : ℕ). Refusal.Damaged f at) (is ∙ ap (λ (s : Shelf). s.file) kept), λ told. no_node old at page (given told) none)

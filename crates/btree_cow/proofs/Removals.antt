@@ -1,16 +1,15 @@
 -- A chunk that is taken out of a tree.
 use Rattle.std.proofs.Common.{◌≡◌, ◌⊎◌, inl, inr, ℕ, zero, suc, ◌<◌, ◌≤◌, ◌+◌, Bool, true, false, List, [], ◌∷◌, ◌++◌, length, refl, sym, ap, ◌∙◌, subst, arith, append-nil, true≢false}
-use Rattle.std.specs.Prelude.{Option, Some, None, IsTrue, Result, Ok, Err, IfOk, IfErr}
+use Rattle.std.specs.Prelude.{Option, Some, None, IsTrue, Result, Ok, Err, IfOk}
 use Rattle.std.specs.List.{list_all}
 use Rattle.std.proofs.lemmas.Bool.{and_parts, ltb-true, lt-ltb}
 use Rattle.forest_model.specs.declared.refusal.Refusal.{Refusal}
 use Rattle.node_page.specs.Nodes.{Entry, rises}
 use Rattle.btree_cow.specs.Shelf.{Shelf, Later, LieBelow}
 use Rattle.btree_cow.specs.Trees.{lies_in, border, Fan, NodeAt, TreeAt, Tree, value_of}
-use Rattle.btree_cow.specs.Causes.{IsNoNode}
 use Rattle.btree_cow.specs.Changes.{without_entry, StaysWell}
-use Rattle.btree_cow.specs.Growing.{AddsNode, AppendFails, Appends, BreaksBelow, IsChild, IsCut, IsRead, PutFails}
-use Rattle.btree_cow.specs.Shrinking.{BreaksNode, Content, Gap, IsChanged, IsSame, Left, Passes, RefillFails, Refills, Remains, Removes, Roots, Settles, led_to}
+use Rattle.btree_cow.specs.Growing.{AddsNode, IsChild, IsCut, IsRead}
+use Rattle.btree_cow.specs.Shrinking.{Content, Gap, IsChanged, IsSame, Left, Passes, Refills, Remains, Removes, Roots, Settles, led_to}
 use Rattle.btree_cow.specs.declared.overfull.Node.{Node}
 use Rattle.btree_cow.specs.declared.grown.Grown.TheVariants.{One}
 use Rattle.btree_cow.specs.declared.shrunk.Shrunk.{Shrunk}
@@ -20,7 +19,7 @@ use Rattle.btree_cow.proofs.Borders.{at_least, below, lies, raise}
 use Rattle.btree_cow.proofs.Fans.{fan_split, fan_inside, tree_inside}
 use Rattle.btree_cow.proofs.Breaks.{one_at}
 use Rattle.btree_cow.proofs.WithEntries.{is_over, is_under}
-use Rattle.btree_cow.proofs.Growth.{added_tree, fan_over, holds_of, node_later, tree_later, tree_lower, under_next}
+use Rattle.btree_cow.proofs.Growth.{added_tree, fan_over, holds_of, tree_later, tree_lower, under_next}
 use Rattle.btree_cow.proofs.WithoutEntries.{all_without, fewer_within, is_other, never_fewer, one_less, over_other, under_other, without_within}
 use Rattle.btree_cow.proofs.Contents.{any_value, any_well, content_holds, content_of, root_any, tree_least}
 use Rattle.btree_cow.proofs.Pairs.{led_at, length_led}
@@ -321,35 +320,6 @@ inner_removed tells old mid mid' new r at chunk place child leaf content childre
     p.each old at chunk c'.cut lie (subst (λ (m : Shelf). Later m mid') kept later) (told_node tells old at leaf false content told is read)
     (subst (λ (n : ℕ). Removes n chunk old mid' shrunk) (sym c'.leads) (subst (λ (m : Shelf). Removes child chunk m mid' shrunk) kept removes)))
     passes
-
--- ---- why a removal fails
-
-no_node_before : (old new : Shelf) (at : ℕ) → Later old new → IsNoNode new at → IsNoNode old at
-no_node_before old new at later none leaf entries node = none leaf entries (node_later old new at leaf entries later node)
-
-broken_below : (tells : Bool) (left at : ℕ) (old mid : Shelf) (block : ℕ) (content : List Entry) → 0 < left → Later old mid → NodeAt old at false content → BreaksNode content at mid block → BreaksBelow old left at block
-broken_below tells left at old mid block content some later node (inl d) =
-    record { depth = 1; reached = (content, d.0, node, d.1, d.2); shallow = omega arith; broken = inl (no_node_before old mid block later d.3) }
-broken_below tells left at old mid block content some later node (inr d) =
-    subst (λ (n : ℕ). BreaksBelow old left at n) (sym d.0) (record { depth = 0; reached = refl; shallow = omega arith; broken = inr (inl (content, d.1, node, d.2, d.3)) })
-
-pub refill_fails : (tells : Bool) (left at : ℕ) (old mid new : Shelf) (x y z : ℕ) (why : Refusal) (content : List Entry) → 0 < left → mid.file ≡ old.file → y ≡ x → (IsTrue tells → Later old mid) → (IsTrue tells → NodeAt old at false content)
-    → RefillFails tells content at mid new y z why → PutFails tells left at old new x z why
-refill_fails tells left at old mid new x y z why content some file same later node (inl fails) = inl (subst (λ (n : ℕ). AppendFails new n z why) same fails)
-refill_fails tells left at old mid new x y z why content some file same later node (inr damaged) =
-    inr (
-      damaged.0,
-      damaged.1 ∙ ap (λ (f : ℕ). Refusal.Damaged f damaged.0) file,
-      λ told.
-          broken_below tells left at old mid damaged.0 content some (later told) (node told) (damaged.2 told),
-    )
-
-pub refill_failed : (tells : Bool) (left at : ℕ) (old mid mid' new : Shelf) (x y z w : ℕ) (r : Result Shrunk Refusal) (leaf : Bool) (content : List Entry) → 0 < left → mid ≡ old → y ≡ x → z ≡ y → leaf ≡ false → IsRead tells old at leaf content
-    → Appends tells mid mid' y z → IfErr r (RefillFails tells content at mid' new z w) → IfErr r (PutFails tells left at old new x w)
-refill_failed tells left at old mid mid' new x y z w (Ok a) leaf content some kept same same' is read appends fails = fails
-refill_failed tells left at old mid mid' new x y z w (Err why) leaf content some kept same same' is read appends fails =
-    refill_fails tells left at old mid' new x z w why content some (appends.limits.file ∙ ap (λ (s : Shelf). s.file) kept) (same' ∙ same) (λ told. subst (λ (m : Shelf). Later m mid') kept (appends.later told))
-    (λ told. told_node tells old at leaf false content told is read) fails
 
 -- ---- the root
 

@@ -8,7 +8,7 @@ use Rattle.std.proofs.lemmas.Option.{none-some}
 use Rattle.node_page.specs.Nodes.{Entry, rises}
 use Rattle.btree_cow.specs.Causes.{IsAmong}
 use Rattle.btree_cow.specs.Shelf.{Shelf, LieBelow}
-use Rattle.btree_cow.specs.Trees.{lies_in, border, Fan, Tree, TreeAt}
+use Rattle.btree_cow.specs.Trees.{lies_in, border, Fan, NodeAt, Tree, TreeAt}
 use Rattle.btree_cow.proofs.Borders.{below, inside_same, lies, raise, widen}
 use Rattle.btree_cow.proofs.Contents.{rises_join}
 use Rattle.btree_cow.proofs.Fans.{fan_inside, tree_inside}
@@ -57,26 +57,26 @@ either (x ∷ xs) ys (suc n) e is =
       | inr h ↦ inr h
     ]
 
--- the block of a leaf that isn't above a block, in which a value is well
-abbrev IsWellBelow : (ℕ → ℕ → Bool) → ℕ → ℕ → Type 0
-IsWellBelow ok at value = (leaf : ℕ) × (leaf ≤ at) × IsTrue (ok leaf value)
+-- the block of an entry's leaf, which isn't above a block, and in which the value is well
+abbrev IsWellBelow : (ℕ → ℕ → Bool) → Shelf → ℕ → Entry → Type 0
+IsWellBelow ok s at e = (leaf : ℕ) × (leaf ≤ at) × IsTrue (ok leaf e.1) × (content : List Entry) × NodeAt s leaf true content × IsAmong e content
 
-module _ (ok : ℕ → ℕ → Bool) (Below : ℕ → ℕ → Option ℕ → List Entry → Type 0) (each : (at low : ℕ) (high : Option ℕ) (es : List Entry) → Below at low high es → (e : Entry) → IsAmong e es → IsWellBelow ok at e.1) where
-  fan_well : (at : ℕ) (high : Option ℕ) (children entries : List Entry) → Fan Below at children high entries → (e : Entry) → IsAmong e entries → IsWellBelow ok at e.1
+module _ (ok : ℕ → ℕ → Bool) (s : Shelf) (Below : ℕ → ℕ → Option ℕ → List Entry → Type 0) (each : (at low : ℕ) (high : Option ℕ) (es : List Entry) → Below at low high es → (e : Entry) → IsAmong e es → IsWellBelow ok s at e) where
+  fan_well : (at : ℕ) (high : Option ℕ) (children entries : List Entry) → Fan Below at children high entries → (e : Entry) → IsAmong e entries → IsWellBelow ok s at e
   fan_well at high [] entries fan e among = absurd (none-some e (ap (λ (l : List Entry). slice_get l among.0) (sym fan) ∙ among.1))
   fan_well at high (c ∷ children) entries fan e among =
       elim (either fan.1 fan.2 among.0 e (ap (λ (l : List Entry). slice_get l among.0) (sym fan.3) ∙ among.1)) [
-        | inl h ↦ let w = each c.1 c.0 (border children high) fan.1 fan.4 e h in (w.0, omega (arith, w.1, fan.0), w.2)
+        | inl h ↦ let w = each c.1 c.0 (border children high) fan.1 fan.4 e h in (w.0, omega (arith, w.1, fan.0), w.2, w.3, w.4, w.5)
         | inr h ↦ fan_well at high children fan.2 fan.5 e h
       ]
 
-tree_well : (ok : ℕ → ℕ → Bool) (s : Shelf) (height least at low : ℕ) (high : Option ℕ) (entries : List Entry) → TreeAt ok s height least at low high entries → (e : Entry) → IsAmong e entries → IsWellBelow ok at e.1
+tree_well : (ok : ℕ → ℕ → Bool) (s : Shelf) (height least at low : ℕ) (high : Option ℕ) (entries : List Entry) → TreeAt ok s height least at low high entries → (e : Entry) → IsAmong e entries → IsWellBelow ok s at e
 tree_well ok s zero least at low high entries tree e among =
-    (at, omega arith, all_at (λ (x : Entry). ok at x.1) entries among.0 e tree.3 among.1)
+    (at, omega arith, all_at (λ (x : Entry). ok at x.1) entries among.0 e tree.3 among.1, entries, tree.0, among)
 tree_well ok s (suc height) least at low high entries tree e among =
-    fan_well ok (TreeAt ok s height 126) (λ at low high es t e h. tree_well ok s height 126 at low high es t e h) at high tree.0 entries tree.5 e among
+    fan_well ok s (TreeAt ok s height 126) (λ at low high es t e h. tree_well ok s height 126 at low high es t e h) at high tree.0 entries tree.5 e among
 
-pub values_are_well : (ok : ℕ → ℕ → Bool) (s : Shelf) (root : ℕ) (entries : List Entry) (e : Entry) → Tree ok s (Some root) entries → IsAmong e entries → IsWellBelow ok root e.1
+pub values_are_well : (ok : ℕ → ℕ → Bool) (s : Shelf) (root : ℕ) (entries : List Entry) (e : Entry) → Tree ok s (Some root) entries → IsAmong e entries → IsWellBelow ok s root e
 values_are_well ok s root entries e tree among = tree_well ok s tree.0 1 root 0 None entries tree.1 e among
 
 pub root_is_below : (ok : ℕ → ℕ → Bool) (s : Shelf) (root : ℕ) (entries : List Entry) → LieBelow s → Tree ok s (Some root) entries → root < s.used

@@ -1,5 +1,5 @@
 -- A walk down a tree: how it begins, goes on and ends.
-use Rattle.std.proofs.Common.{◌≡◌, ◌⊎◌, inl, inr, ℕ, zero, suc, ◌<◌, ◌≤◌, ◌+◌, ◌-◌, ◌^◌, Bool, true, false, List, [], ◌∷◌, ◌++◌, length, refl, sym, ap, ◌∙◌, subst, arith, add-one, append_assoc}
+use Rattle.std.proofs.Common.{◌≡◌, ◌⊎◌, inl, inr, ℕ, zero, suc, ◌<◌, ◌≤◌, ◌+◌, ◌-◌, ◌^◌, Bool, true, false, List, [], ◌∷◌, ◌++◌, length, refl, sym, ap, ◌∙◌, subst, arith, append_assoc}
 use Rattle.std.specs.Prelude.{Option, Some, None, IsTrue, IfSome, nat_lt, slice_get}
 use Rattle.std.specs.List.{list_all}
 use Rattle.std.specs.Option.{option_or, option_map_or, is_some}
@@ -10,15 +10,17 @@ use Rattle.node_page.specs.declared.page.Page.{Page}
 use Rattle.forest_model.specs.declared.refusal.Refusal.{Refusal}
 use Rattle.btree_cow.specs.Shelf.{Shelf, Stored, is_stored}
 use Rattle.btree_cow.specs.Trees.{lies_in, Fan, NodeAt, TreeAt, nearest, value_of}
-use Rattle.btree_cow.specs.Causes.{IsAmong, Way, IsNoNode, BreaksTree, Reason}
-use Rattle.btree_cow.specs.Walks.{IsSibling, IsChoice, WayBeside, EndsAt, ReachesBeside, edge, first_of}
-use Rattle.btree_cow.specs.Finds.{Remains, Finds, IsWithin, block_of, next_place, lie_under}
+use Rattle.btree_cow.specs.Causes.{IsAmong, IsNoNode, Reason}
+use Rattle.btree_cow.specs.Barred.{BreaksOnWay, IsBeside, IsHigh, NamesUnder, NodeFails}
+use Rattle.btree_cow.specs.Walks.{IsSibling, IsChoice, WayBeside, WayFor, EndsAt, ReachesBeside, edge, first_of}
+use Rattle.btree_cow.specs.Finds.{Remains, Finds, IsNearest, IsWithin, block_of, next_place, lie_under}
 use Rattle.btree_cow.specs.declared.walk.Place.{Place}
 use Rattle.btree_cow.proofs.Finds.{or_found, or_nothing, or_assoc}
 use Rattle.btree_cow.proofs.Fans.{tree_inside, tree_some, tree_fit}
 use Rattle.btree_cow.proofs.Nearest.{first_found}
 use Rattle.btree_cow.proofs.Steps.{IsSound, Step, step_down, nowhere}
 use Rattle.btree_cow.proofs.Breaks.{one_at, no_leaf}
+use Rattle.btree_cow.proofs.Ways.{way_only}
 
 -- ---- children of a choice
 
@@ -29,27 +31,33 @@ get_behind (b ∷ before) after c = get_behind before after c
 among : (entries before after : List Entry) (c : Entry) → entries ≡ before ++ c ∷ after → IsAmong c entries
 among entries before after c is = (length before, ap (λ (l : List Entry). slice_get l (length before)) is ∙ get_behind before after c)
 
-chosen_among : (up : Bool) (q : ℕ) (entries : List Entry) (child : ℕ) (sibling : Option ℕ) → IsChoice up q entries child sibling → (c : Entry) × IsAmong c entries × (c.1 ≡ child)
+pub chosen_among : (up : Bool) (q : ℕ) (entries : List Entry) (child : ℕ) (sibling : Option ℕ) → IsChoice up q entries child sibling → (c : Entry) × IsAmong c entries × (c.1 ≡ child)
 chosen_among up q entries child sibling ch = (ch.chosen, among entries ch.before ch.after ch.chosen ch.split, ch.child_is)
 
-sibling_among : (up : Bool) (entries before after : List Entry) (chosen : Entry) (at : ℕ) → entries ≡ before ++ chosen ∷ after → IsSibling up before after (Some at) → (c : Entry) × IsAmong c entries × (c.1 ≡ at)
+pub sibling_among : (up : Bool) (entries before after : List Entry) (chosen : Entry) (at : ℕ) → entries ≡ before ++ chosen ∷ after → IsSibling up before after (Some at) → (c : Entry) × IsAmong c entries × (c.1 ≡ at)
 sibling_among true entries before after chosen at split is =
     (is.0, among entries (before ++ chosen ∷ []) is.1 is.0 (split ∙ ap (λ (l : List Entry). before ++ chosen ∷ l) is.2 ∙ sym (append_assoc before (chosen ∷ []) (is.0 ∷ is.1))), is.3)
 sibling_among false entries before after chosen at split is =
     (is.1, among entries is.0 (chosen ∷ after) is.1 (split ∙ ap (λ (l : List Entry). l ++ chosen ∷ after) is.2 ∙ append_assoc is.0 (is.1 ∷ []) (chosen ∷ after)), is.3)
 
-high_sibling : (up : Bool) (q : ℕ) (entries : List Entry) (child : ℕ) (sibling : Option ℕ) (at : ℕ) → IsChoice up q entries child sibling → option_map_or (λ (s : ℕ). nat_lt s at) sibling true ≡ false
-    → (c : Entry) × IsAmong c entries × (at ≤ c.1)
-high_sibling up q entries child None at ch high = absurd (true≢false high)
-high_sibling up q entries child (Some s) at ch high =
-    let there = sibling_among up entries ch.before ch.after ch.chosen s ch.split ch.sibling_is in
-    (there.0, there.1, omega (arith, ltb-false s at high, there.2))
+high_sibling : (sibling : Option ℕ) (at : ℕ) → option_map_or (λ (s : ℕ). nat_lt s at) sibling true ≡ false → (other : ℕ) × (sibling ≡ Some other) × (at ≤ other)
+high_sibling None at high = absurd (true≢false high)
+high_sibling (Some s) at high = (s, refl, omega (arith, ltb-false s at high))
 
-pub high_child : (up : Bool) (q : ℕ) (entries : List Entry) (child : ℕ) (sibling : Option ℕ) (at : ℕ) → IsChoice up q entries child sibling → lie_under child sibling at ≡ false → (c : Entry) × IsAmong c entries × (at ≤ c.1)
-high_child up q entries child sibling at ch high = elim (and_cases (nat_lt child at) (option_map_or (λ (s : ℕ). nat_lt s at) sibling true) high) [
-  | inl here ↦ (ch.chosen, among entries ch.before ch.after ch.chosen ch.split, omega (arith, ltb-false child at here, ch.child_is))
-  | inr there ↦ high_sibling up q entries child sibling at ch there
+pub high_choice : (child : ℕ) (sibling : Option ℕ) (at : ℕ) → lie_under child sibling at ≡ false → IsHigh at child sibling
+high_choice child sibling at high = elim (and_cases (nat_lt child at) (option_map_or (λ (s : ℕ). nat_lt s at) sibling true) high) [
+  | inl here ↦ inl (omega (arith, ltb-false child at here))
+  | inr there ↦ inr (high_sibling sibling at there)
 ]
+
+low_sibling : (sibling : Option ℕ) (at : ℕ) → option_map_or (λ (s : ℕ). nat_lt s at) sibling true ≡ true → IfSome sibling (λ (other : ℕ). other < at)
+low_sibling None at low = tt
+low_sibling (Some s) at low = ltb-true s at low
+
+pub low_choice : (child : ℕ) (sibling : Option ℕ) (at : ℕ) → lie_under child sibling at ≡ true → (child < at) × IfSome sibling (λ (other : ℕ). other < at)
+low_choice child sibling at low =
+    let parts = and_parts (nat_lt child at) (option_map_or (λ (s : ℕ). nat_lt s at) sibling true) low in
+    (ltb-true child at parts.0, low_sibling sibling at parts.1)
 
 pub no_node : (s : Shelf) (at : ℕ) (page : Page) → is_stored s 2 at page → ((leaf : Bool) (entries : List Entry) → IsNode page leaf entries → ⊥) → IsNoNode s at
 no_node s at page stored none leaf entries node =
@@ -72,12 +80,20 @@ pub record Leads (ok : ℕ → ℕ → Bool) (s : Shelf) (at : ℕ) (second : Op
   pub near : nearest with up entries q ≡ option_or (nearest with up sub q) (first_of up rest)
   pub remains : Remains ok s second rest
 
+-- the sibling nearest to where a walk has come
+pub record IsLast (s : Shelf) (up : Bool) (q : ℕ) (from here place : Place) : Type 0 where
+  pub depth : ℕ
+  pub deeper : place.depth ≡ from.depth + depth
+  pub beside : IsBeside s up q from.at depth place.at here.at
+  pub deep : here.depth ≡ place.depth + beside.more
+
 pub record IsWalk (tells : Bool) (s : Shelf) (from here : Place) (second : Option Place) (with up : Bool) (q : ℕ) : Type 0 where
-  pub within : IsWithin tells s from here
-  pub beyond : IfSome second (λ (place : Place). IsWithin tells s from place)
+  pub within : IsWithin from here
+  pub beyond : IfSome second (λ (place : Place). IsWithin from place)
   pub links : ℕ
   pub deep : here.depth ≡ from.depth + links
   pub way_beside : IsTrue tells → WayBeside s up q links from.at None here.at (block_of second)
+  pub last : IsTrue tells → IfSome second (λ (place : Place). IsLast s up q from here place)
   pub leads : IsTrue tells → (ok : ℕ → ℕ → Bool) (height least low : ℕ) (high : Option ℕ) (entries : List Entry) → TreeAt ok s height least from.at low high entries → Leads ok s here.at second with up q entries
 
 pub first_none : (up : Bool) → first_of up [] ≡ None
@@ -86,11 +102,12 @@ first_none false = refl
 
 pub walk_starts : (tells : Bool) (s : Shelf) (from : Place) (with up : Bool) (q : ℕ) → from.depth ≤ 9 → IsWalk tells s from from None with up q
 walk_starts tells s from with up q few = record {
-  within = record { shallow = few; way = λ told root way. way };
+  within = record { shallow = few; under = omega arith };
   beyond = tt;
   links = 0;
   deep = omega arith;
   way_beside = λ told. (refl, refl);
+  last = λ told. tt;
   leads = λ told ok height least low high entries tree. record {
     height = height;
     least = least;
@@ -107,37 +124,80 @@ walk_starts tells s from with up q few = record {
 
 -- ---- one link more
 
-way_more : (s : Shelf) (depth root at : ℕ) (children : List Entry) (c : Entry) → Way s depth root at → NodeAt s at false children → IsAmong c children → Way s (suc depth) root c.1
-way_more s zero root at children c way node is = (children, c, subst (λ (b : ℕ). NodeAt s b false children) (sym way) node, is, refl)
-way_more s (suc depth) root at children c way node is = (way.0, way.1, way.2, way.3, way_more s depth way.1.1 at children c way.4 node is)
-
 way_beside_more : (s : Shelf) (up : Bool) (q links from : ℕ) (earlier : Option ℕ) (at : ℕ) (last : Option ℕ) (children : List Entry) (child : ℕ) (sibling : Option ℕ)
-    → WayBeside s up q links from earlier at last → NodeAt s at false children → IsChoice up q children child sibling → WayBeside s up q (suc links) from earlier child (option_or sibling last)
-way_beside_more s up q zero from earlier at last children child sibling way node ch =
-    (children, subst (λ (b : ℕ). NodeAt s b false children) (sym way.0) node, child, sibling, ch, (refl, ap (λ (o : Option ℕ). option_or sibling o) way.1))
-way_beside_more s up q (suc links) from earlier at last children child sibling way node ch =
-    (way.0, way.1, way.2, way.3, way.4, way_beside_more s up q links way.2 (option_or way.3 earlier) at last children child sibling way.5 node ch)
+    → WayBeside s up q links from earlier at last → NodeAt s at false children → IsChoice up q children child sibling → child < at → IfSome sibling (λ (other : ℕ). other < at)
+    → WayBeside s up q (suc links) from earlier child (option_or sibling last)
+way_beside_more s up q zero from earlier at last children child sibling way node ch low beside = (
+  children,
+  subst (λ (b : ℕ). NodeAt s b false children) (sym way.0) node,
+  child,
+  sibling,
+  ch,
+  subst (λ (b : ℕ). child < b) (sym way.0) low,
+  subst (λ (b : ℕ). IfSome sibling (λ (other : ℕ). other < b)) (sym way.0) beside,
+  (refl, ap (λ (o : Option ℕ). option_or sibling o) way.1),
+)
+way_beside_more s up q (suc links) from earlier at last children child sibling way node ch low beside =
+    (way.0, way.1, way.2, way.3, way.4, way.5, way.6, way_beside_more s up q links way.2 (option_or way.3 earlier) at last children child sibling way.7 node ch low beside)
 
 block_of_next : (sibling : Option ℕ) (depth : ℕ) (second : Option Place) → option_or sibling (block_of second) ≡ block_of (next_place sibling depth second)
 block_of_next None depth second = refl
 block_of_next (Some at) depth second = refl
 
-one_deeper : (tells : Bool) (s : Shelf) (from here : Place) (children : List Entry) (c : Entry) (child : ℕ) → IsWithin tells s from here → here.depth < 9 → (IsTrue tells → NodeAt s here.at false children) → IsAmong c children → c.1 ≡ child
-    → IsWithin tells s from (record { at = child; depth = here.depth + 1 })
-one_deeper tells s from here children c child within few node is same = record {
-  shallow = omega arith;
-  way = λ told root way.
-      subst (λ (d : ℕ). Way s d root child) (sym (add-one here.depth))
-      (subst (λ (b : ℕ). Way s (suc here.depth) root b) same (way_more s here.depth root here.at children c (within.way told root way) (node told) is));
+beyond_more : (from here : Place) (second : Option Place) (sibling : Option ℕ) → IsWithin from here → here.depth < 9 → IfSome sibling (λ (other : ℕ). other < here.at) → IfSome second (λ (place : Place). IsWithin from place)
+    → IfSome (next_place sibling (here.depth + 1) second) (λ (place : Place). IsWithin from place)
+beyond_more from here second None within few low before = before
+beyond_more from here second (Some at) within few low before = record { shallow = omega arith; under = omega (arith, within.under, low) }
+
+-- a sibling stays the nearest one where the next node has none
+last_on : (s : Shelf) (up : Bool) (q : ℕ) (from here : Place) (second : Option Place) (children : List Entry) (child : ℕ) → here.depth < 9 → NodeAt s here.at false children → IsChoice up q children child None → child < here.at
+    → IfSome second (λ (place : Place). IsLast s up q from here place) → IfSome second (λ (place : Place). IsLast s up q from (record { at = child; depth = here.depth + 1 }) place)
+last_on s up q from here None children child few node ch low l = l
+last_on s up q from here (Some place) children child few node ch low l = record {
+  depth = l.depth;
+  deeper = l.deeper;
+  beside = record {
+    links = l.beside.links;
+    parent = l.beside.parent;
+    way = l.beside.way;
+    children = l.beside.children;
+    node = l.beside.node;
+    child = l.beside.child;
+    choice = l.beside.choice;
+    below = l.beside.below;
+    beside = l.beside.beside;
+    more = suc l.beside.more;
+    rest = way_beside_more s up q l.beside.more l.beside.child None here.at None children child None l.beside.rest node ch low tt;
+    few = omega (arith, few, l.deep, l.deeper, l.beside.depth_is);
+    depth_is = l.beside.depth_is;
+  };
+  deep = omega (arith, l.deep);
 }
 
-beyond_more : (tells : Bool) (s : Shelf) (from here : Place) (second : Option Place) (up : Bool) (q : ℕ) (children : List Entry) (child : ℕ) (sibling : Option ℕ)
-    → IsWithin tells s from here → here.depth < 9 → (IsTrue tells → NodeAt s here.at false children) → IsChoice up q children child sibling → IfSome second (λ (place : Place). IsWithin tells s from place)
-    → IfSome (next_place sibling (here.depth + 1) second) (λ (place : Place). IsWithin tells s from place)
-beyond_more tells s from here second up q children child None within few node ch before = before
-beyond_more tells s from here second up q children child (Some at) within few node ch before =
-    let there = sibling_among up children ch.before ch.after ch.chosen at ch.split ch.sibling_is in
-    one_deeper tells s from here children there.0 at within few node there.1 there.2
+last_more : (s : Shelf) (up : Bool) (q : ℕ) (from here : Place) (second : Option Place) (links : ℕ) (children : List Entry) (child : ℕ) (sibling : Option ℕ) → here.depth < 9 → here.depth ≡ from.depth + links → WayFor s up q links from.at here.at
+    → NodeAt s here.at false children → IsChoice up q children child sibling → child < here.at → IfSome sibling (λ (other : ℕ). other < here.at) → IfSome second (λ (place : Place). IsLast s up q from here place)
+    → IfSome (next_place sibling (here.depth + 1) second) (λ (place : Place). IsLast s up q from (record { at = child; depth = here.depth + 1 }) place)
+last_more s up q from here second links children child None few deep way node ch low beside l = last_on s up q from here second children child few node ch low l
+last_more s up q from here second links children child (Some at) few deep way node ch low beside l = record {
+  depth = links + 1;
+  deeper = omega (arith, deep);
+  beside = record {
+    links = links;
+    parent = here.at;
+    way = way;
+    children = children;
+    node = node;
+    child = child;
+    choice = ch;
+    below = low;
+    beside = beside;
+    more = 0;
+    rest = (refl, refl);
+    few = omega (arith, few, deep);
+    depth_is = refl;
+  };
+  deep = omega arith;
+}
 
 sound : (ok : ℕ → ℕ → Bool) (s : Shelf) (height : ℕ) → IsSound (TreeAt ok s height 126)
 sound ok s height = record {
@@ -197,18 +257,19 @@ leads_on ok s height at child depth second with up q entries (Some sibling) l st
 
 pub walk_goes_on : (tells : Bool) (s : Shelf) (from here : Place) (second : Option Place) (with up : Bool) (q : ℕ) (page : Page) (children : List Entry) (child : ℕ) (sibling : Option ℕ)
     → IsWalk tells s from here second with up q → here.depth < 9 → IsNode page false children → (IsTrue tells → is_stored s 2 here.at page) → IsChoice up q children child sibling
-    → IsWalk tells s from (record { at = child; depth = here.depth + 1 }) (next_place sibling (here.depth + 1) second) with up q
-walk_goes_on tells s from here second with up q page children child sibling w few node stored ch =
+    → (child < here.at) × IfSome sibling (λ (other : ℕ). other < here.at) → IsWalk tells s from (record { at = child; depth = here.depth + 1 }) (next_place sibling (here.depth + 1) second) with up q
+walk_goes_on tells s from here second with up q page children child sibling w few node stored ch low =
     let there : IsTrue tells → NodeAt s here.at false children = λ told. (page, stored told, node) in
-    let mine = chosen_among up q children child sibling ch in
     record {
-      within = one_deeper tells s from here children mine.0 child w.within few there mine.1 mine.2;
+      within = record { shallow = omega (arith, few); under = omega (arith, w.within.under, low.0) };
       links = suc w.links;
       deep = omega (arith, w.deep);
       way_beside = λ told.
           subst (λ (last : Option ℕ). WayBeside s up q (suc w.links) from.at None child last) (block_of_next sibling (here.depth + 1) second)
-          (way_beside_more s up q w.links from.at None here.at (block_of second) children child sibling (w.way_beside told) (there told) ch);
-      beyond = beyond_more tells s from here second up q children child sibling w.within few there ch w.beyond;
+          (way_beside_more s up q w.links from.at None here.at (block_of second) children child sibling (w.way_beside told) (there told) ch low.0 low.1);
+      beyond = beyond_more from here second sibling w.within few low.1 w.beyond;
+      last = λ told.
+          last_more s up q from here second w.links children child sibling few w.deep (way_only s up q w.links from.at None here.at (block_of second) (w.way_beside told)) (there told) ch low.0 low.1 (w.last told);
       leads = λ told ok height least low high entries tree.
           let l = w.leads told ok height least low high entries tree in
           let in_it = inner ok s l.height l.least here.at l.low l.high children l.sub (there told) l.stands in
@@ -264,6 +325,15 @@ pub reaches : (tells : Bool) (s : Shelf) (from here : Place) (second : Option Pl
 reaches tells s from here second with up q entry w end told =
     record { links = w.links; few = omega (arith, w.deep, w.within.shallow); block = here.at; way = w.way_beside told; end = end }
 
+nearest_of : (s : Shelf) (with up : Bool) (q : ℕ) (from here : Place) (second : Option Place) (entry : Option Entry) → EndsAt s with up q here.at entry → IfSome second (λ (place : Place). IsLast s up q from here place)
+    → IfSome second (λ (place : Place). IsNearest s with up q from place entry)
+nearest_of s with up q from here None entry end l = l
+nearest_of s with up q from here (Some place) entry end l = record { depth = l.depth; deeper = l.deeper; block = here.at; beside = l.beside; end = end }
+
+pub has_nearest : (tells : Bool) (s : Shelf) (from here : Place) (second : Option Place) (with up : Bool) (q : ℕ) (entry : Option Entry) → IsWalk tells s from here second with up q → EndsAt s with up q here.at entry
+    → IsTrue tells → IfSome second (λ (place : Place). IsNearest s with up q from place entry)
+has_nearest tells s from here second with up q entry w end told = nearest_of s with up q from here second entry end (w.last told)
+
 -- from the edge a walk finds an entry in any node
 pub leaf_has : (with up : Bool) (q : ℕ) (page : Page) (leaf : List Entry) (entry : Option Entry) → IsNode page true leaf → entry ≡ nearest with up leaf q → with ≡ true → q ≡ edge up → is_some entry ≡ true
 leaf_has with up q page leaf entry node is all at_edge =
@@ -284,31 +354,53 @@ not_before up q page children node down above at_edge = none children node.some 
 
 -- ---- the reasons
 
-pub breaks_as_no_node : (tells : Bool) (s : Shelf) (from here : Place) (file first before after root : ℕ) (why : Refusal) → IsWithin tells s from here → before ≡ first → (IsTrue tells → Way s from.depth root from.at)
-    → Reason tells file (λ block. (block ≡ here.at) × IsNoNode s here.at) before after why → Reason tells file (BreaksTree s root) first after why
-breaks_as_no_node tells s from here file first before after root why w same way (inl disk) = inl (disk.0, omega (arith, disk.1))
-breaks_as_no_node tells s from here file first before after root why w same way (inr damaged) = inr (
+pub breaks_as_no_node : (tells : Bool) (s : Shelf) (from here : Place) (second : Option Place) (with up : Bool) (q first before after : ℕ) (why : Refusal) → IsWalk tells s from here second with up q → before ≡ first
+    → NodeFails tells s here.at before after why → Reason tells s.file (BreaksOnWay s up q from.depth from.at) first after why
+breaks_as_no_node tells s from here second with up q first before after why w same (inl disk) = inl (disk.0, omega (arith, disk.1))
+breaks_as_no_node tells s from here second with up q first before after why w same (inr damaged) = inr (
+  here.at,
   damaged.0,
-  damaged.1,
   λ told.
-      let broken = damaged.2 told in
-      subst (λ (b : ℕ). BreaksTree s root b) (sym broken.0) (record { depth = here.depth; reached = w.way told root (way told); shallow = w.shallow; broken = inl broken.1 }),
+      record {
+        links = w.links;
+        way = way_only s up q w.links from.at None here.at (block_of second) (w.way_beside told);
+        shallow = omega (arith, w.deep, w.within.shallow);
+        broken = inl (inl (damaged.1 told));
+      },
 )
 
-pub breaks_as_inner : (tells : Bool) (s : Shelf) (from here : Place) (file before after root : ℕ) (why : Refusal) (page : Page) (children : List Entry) → IsWithin tells s from here → (IsTrue tells → Way s from.depth root from.at)
-    → IsNode page false children → (IsTrue tells → is_stored s 2 here.at page) → why ≡ Refusal.Damaged file here.at → (9 ≤ here.depth) ⊎ ((c : Entry) × IsAmong c children × (here.at ≤ c.1))
-    → Reason tells file (BreaksTree s root) before after why
-breaks_as_inner tells s from here file before after root why page children w way node stored is how = inr (
+pub breaks_as_inner : (tells : Bool) (s : Shelf) (from here : Place) (second : Option Place) (with up : Bool) (q file before after : ℕ) (why : Refusal) (page : Page) (children : List Entry) → IsWalk tells s from here second with up q
+    → IsNode page false children → (IsTrue tells → is_stored s 2 here.at page) → why ≡ Refusal.Damaged file here.at
+    → (9 ≤ here.depth) ⊎ ((child : ℕ) × (sibling : Option ℕ) × IsChoice up q children child sibling × IsHigh here.at child sibling) → Reason tells file (BreaksOnWay s up q from.depth from.at) before after why
+breaks_as_inner tells s from here second with up q file before after why page children w node stored is how = inr (
   here.at,
   is,
   λ told.
       record {
-        depth = here.depth;
-        reached = w.way told root (way told);
-        shallow = w.shallow;
+        links = w.links;
+        way = way_only s up q w.links from.at None here.at (block_of second) (w.way_beside told);
+        shallow = omega (arith, w.deep, w.within.shallow);
         broken = elim how [
-          | inl deep ↦ inr (inr (deep, children, (page, stored told, node)))
-          | inr high ↦ inr (inl (children, high.0, (page, stored told, node), high.1, high.2))
+          | inl deep ↦ inr (omega (arith, deep, w.deep), children, (page, stored told, node))
+          | inr high ↦ inl (inr (children, (page, stored told, node), high.0, high.1, high.2, high.3))
         ];
       },
 )
+
+pub names_it : (file at : ℕ) (why : Refusal) → why ≡ Refusal.Damaged file at → NamesUnder file at why
+names_it file at why is other block is' =
+    let both : Refusal.Damaged other block ≡ Refusal.Damaged file at = sym is' ∙ is in
+    let same_file : other ≡ file = cc in
+    let same : block ≡ at = cc in
+    (same_file, omega (arith, same))
+
+pub names_higher : (file at higher : ℕ) (why : Refusal) → at ≤ higher → NamesUnder file at why → NamesUnder file higher why
+names_higher file at higher why less names other block is =
+    let named = names other block is in
+    (named.0, omega (arith, less, named.1))
+
+pub names_node : (tells : Bool) (s : Shelf) (at before after : ℕ) (why : Refusal) → NodeFails tells s at before after why → NamesUnder s.file at why
+names_node tells s at before after why (inl disk) other block is =
+    let fault : why ≡ Refusal.DiskFault = disk.0 in
+    absurd cc
+names_node tells s at before after why (inr damaged) other block is = names_it s.file at why damaged.0 other block is

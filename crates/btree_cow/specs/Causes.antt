@@ -1,5 +1,5 @@
 -- Why a walk down a tree ends without an answer.
-use Rattle.std.specs.Prelude.{◌≡◌, ◌⊎◌, ℕ, zero, suc, ◌+◌, ◌/◌, ◌≤◌, Bool, false, List, slice_get, Option, Some, IsTrue}
+use Rattle.std.specs.Prelude.{◌≡◌, ◌⊎◌, ℕ, ◌+◌, ◌/◌, ◌≤◌, Bool, false, List, slice_get, Some, IsTrue}
 use Rattle.block_host.specs.Disk.{risen}
 use Rattle.doc_stream.specs.Causes.{longest_run}
 use Rattle.forest_model.specs.declared.refusal.Refusal.{Refusal}
@@ -12,11 +12,6 @@ use Rattle.btree_cow.specs.Trees.{NodeAt}
 abbrev pub IsAmong : Entry → List Entry → Type 0
 IsAmong e entries = (n : ℕ) × (slice_get entries n ≡ Some e)
 
--- so many links lead down from a block to another, from inner nodes to their children
-abbrev pub Way : Shelf → ℕ → ℕ → ℕ → Type 0
-Way s zero at block = at ≡ block
-Way s (suc more) at block = (children : List Entry) × (c : Entry) × NodeAt s at false children × IsAmong c children × Way s more c.1 block
-
 -- a block is no page of a kind
 abbrev pub IsNoPage : Shelf → ℕ → ℕ → Type 0
 IsNoPage s kind at = (page : Page) → is_stored s kind at page → ⊥
@@ -25,30 +20,15 @@ IsNoPage s kind at = (page : Page) → is_stored s kind at page → ⊥
 abbrev pub IsNoNode : Shelf → ℕ → Type 0
 IsNoNode s at = (leaf : Bool) (entries : List Entry) → NodeAt s at leaf entries → ⊥
 
--- a block is an inner node with a child that isn't below it
-abbrev pub HasHighChild : Shelf → ℕ → Type 0
-HasHighChild s at = (children : List Entry) × (c : Entry) × NodeAt s at false children × IsAmong c children × (at ≤ c.1)
-
 -- a block is an inner node as deep as no tree has one
 abbrev pub IsTooDeep : Shelf → ℕ → ℕ → Type 0
 IsTooDeep s depth at = (9 ≤ depth) × (children : List Entry) × NodeAt s at false children
 
--- A block on a way of at most nine links from the root, by which there is no tree.
-pub record BreaksTree (s : Shelf) (root block : ℕ) : Type 0 where
-  pub depth : ℕ
-  pub reached : Way s depth root block
-  pub shallow : depth ≤ 9
-  pub broken : IsNoNode s block ⊎ HasHighChild s block ⊎ IsTooDeep s depth block
-
--- the reasons not to answer: a count of faults that rose, or a block that breaks the tree
+-- the reasons not to answer: a count of faults that rose, or a block that bars the way
 abbrev pub Reason : Bool → ℕ → (ℕ → Type 0) → ℕ → ℕ → Refusal → Type 0
 Reason tells file Breaks before after why =
     ((why ≡ Refusal.DiskFault) × (risen before ≤ after))
     ⊎ ((block : ℕ) × (why ≡ Refusal.Damaged file block) × (IsTrue tells → Breaks block))
-
--- a root by whose tree a block breaks
-abbrev pub BreaksFrom : Shelf → Option ℕ → ℕ → Type 0
-BreaksFrom s root block = (at : ℕ) × (root ≡ Some at) × BreaksTree s at block
 
 -- the refusal of a file without room for a block
 abbrev pub is_full : Shelf → Refusal

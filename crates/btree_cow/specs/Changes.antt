@@ -1,13 +1,10 @@
--- What changes make of the entries of a tree, and why one fails.
-use Rattle.std.specs.Prelude.{◌≡◌, ◌⊎◌, ℕ, ◌≤◌, Bool, true, ◌&&◌, not, ◌==◌, List, [], ◌∷◌, filter, nat_lt, Option, Some, None, IsTrue, if◌then◌else◌}
+-- What changes make of the entries of a tree.
+use Rattle.std.specs.Prelude.{◌≡◌, ℕ, ◌≤◌, Bool, true, ◌&&◌, not, ◌==◌, List, [], ◌∷◌, filter, nat_lt, Option, Some, None, IsTrue, if◌then◌else◌}
 use Rattle.std.specs.List.{list_all}
 use Rattle.std.specs.Option.{is_none, option_map_or}
-use Rattle.block_host.specs.Disk.{risen}
-use Rattle.forest_model.specs.declared.refusal.Refusal.{Refusal}
 use Rattle.node_page.specs.Nodes.{Entry}
 use Rattle.btree_cow.specs.Shelf.{Shelf}
 use Rattle.btree_cow.specs.Trees.{value_of}
-use Rattle.btree_cow.specs.Causes.{BreaksFrom, is_full}
 
 -- with a value for a chunk, in place of an older one
 abbrev pub with_entry : List Entry → ℕ → ℕ → List Entry
@@ -43,13 +40,6 @@ pub record SameLimits (old new : Shelf) : Type 0 where
   pub used : old.used ≤ new.used
   pub most : new.most ≡ old.most
   pub max : new.max ≡ old.max
-
--- The reasons not to change a tree: a count of faults that rose, no room for a block more, or a block that breaks the tree.
-abbrev pub ChangeFails : Bool → Shelf → Shelf → Option ℕ → ℕ → ℕ → Refusal → Type 0
-ChangeFails tells old new root before after why =
-    ((why ≡ Refusal.DiskFault) × (risen before ≤ after))
-    ⊎ ((why ≡ is_full new) × (new.most ≤ new.used))
-    ⊎ ((block : ℕ) × (why ≡ Refusal.Damaged old.file block) × (IsTrue tells → BreaksFrom old root block))
 
 -- the chunks of changes strictly rise
 abbrev pub changes_rise : List Change → Bool

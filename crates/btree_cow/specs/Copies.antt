@@ -1,5 +1,5 @@
 -- What an insert makes of the nodes on its way, on any blocks.
-use Rattle.std.specs.Prelude.{◌≡◌, ℕ, zero, suc, ◌+◌, ◌/◌, ◌≤◌, Bool, true, false, List, [], ◌∷◌, ◌++◌, length, Option, Some, None}
+use Rattle.std.specs.Prelude.{◌≡◌, ℕ, zero, suc, ◌+◌, ◌/◌, ◌<◌, ◌≤◌, Bool, true, false, List, [], ◌∷◌, ◌++◌, length, Option, Some, None}
 use Rattle.node_page.specs.Nodes.{Entry}
 use Rattle.btree_cow.specs.Shelf.{Shelf}
 use Rattle.btree_cow.specs.Trees.{NodeAt}
@@ -8,8 +8,8 @@ use Rattle.btree_cow.specs.Growing.{IsChild, first_chunk, with_child}
 use Rattle.btree_cow.specs.declared.grown.Grown.{Grown}
 use Rattle.btree_cow.specs.declared.grown.Grown.TheVariants.{One, Two}
 
--- more entries than a node has stand in two nodes, half of them in the first
-pub record AreHalves (s : Shelf) (leaf : Bool) (content : List Entry) (left right : Entry) : Type 0 where
+-- more entries than a node has stand in two new nodes, from a number on, half of them in the first
+pub record AreHalves (from : ℕ) (s : Shelf) (leaf : Bool) (content : List Entry) (left right : Entry) : Type 0 where
   pub front : List Entry
   pub back : List Entry
   pub split : content ≡ front ++ back
@@ -19,11 +19,13 @@ pub record AreHalves (s : Shelf) (leaf : Bool) (content : List Entry) (left righ
   pub right_chunk : right.0 ≡ first_chunk back
   pub left_node : NodeAt s left.1 leaf front
   pub right_node : NodeAt s right.1 leaf back
+  pub left_new : from ≤ left.1
+  pub right_new : from ≤ right.1
 
--- entries stand in one node, or in two where they are too many
-abbrev pub IsMade : Shelf → Bool → List Entry → Grown → Type 0
-IsMade s leaf content (One at) = NodeAt s at leaf content
-IsMade s leaf content (Two left right) = AreHalves s leaf content left right
+-- entries stand in one new node, from a number on, or in two where they are too many
+abbrev pub IsMade : ℕ → Shelf → Bool → List Entry → Grown → Type 0
+IsMade from s leaf content (One at) = NodeAt s at leaf content × (from ≤ at)
+IsMade from s leaf content (Two left right) = AreHalves from s leaf content left right
 
 abbrev pub node_count : Grown → ℕ
 node_count (One at) = 1
@@ -35,18 +37,18 @@ last_block (Two left right) = right.1
 
 -- entries stand in one node or two, and as many blocks were added
 pub record Makes (leaf : Bool) (content : List Entry) (old new : Shelf) (grown : Grown) : Type 0 where
-  pub made : IsMade new leaf content grown
+  pub made : IsMade old.used new leaf content grown
   pub used : new.used ≡ old.used + node_count grown
 
--- So many nodes stand for those on a way of so many links down: the leaf's entries with the value for the chunk, and
+-- So many new nodes stand for those on a way of so many links down: the leaf's entries with the value for the chunk, and
 -- above it each node's children, all as they were but the one on the way.
 abbrev pub PutsAlong : Shelf → Shelf → ℕ → ℕ → ℕ → ℕ → Grown → ℕ → Type 0
 PutsAlong old new zero at chunk value grown nodes =
-    (content : List Entry) × NodeAt old at true content × IsMade new true (with_entry content chunk value) grown × (nodes ≡ node_count grown)
+    (content : List Entry) × NodeAt old at true content × IsMade old.used new true (with_entry content chunk value) grown × (nodes ≡ node_count grown)
 PutsAlong old new (suc links) at chunk value grown nodes =
-    (children : List Entry) × NodeAt old at false children × (place : ℕ) × (child : ℕ) × IsChild children chunk place child
+    (children : List Entry) × NodeAt old at false children × (place : ℕ) × (child : ℕ) × IsChild children chunk place child × (child < at)
     × (below : Grown) × (count : ℕ) × PutsAlong old new links child chunk value below count
-    × IsMade new false (with_child children place chunk below) grown × (nodes ≡ count + node_count grown)
+    × IsMade old.used new false (with_child children place chunk below) grown × (nodes ≡ count + node_count grown)
 
 -- nodes stand for those on the way from a block, with the value for the chunk, and as many blocks were added: which ones,
 -- and that the older ones stay, is said apart

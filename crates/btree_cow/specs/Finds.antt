@@ -1,11 +1,11 @@
 -- What a walk down a tree comes to.
-use Rattle.std.specs.Prelude.{◌≡◌, ℕ, ◌≤◌, Bool, true, ◌&&◌, List, [], nat_lt, ◌==◌, if◌then◌else◌, Option, Some, None, IsTrue}
+use Rattle.std.specs.Prelude.{◌≡◌, ℕ, ◌+◌, ◌≤◌, Bool, true, ◌&&◌, List, [], nat_lt, ◌==◌, if◌then◌else◌, Option, Some, None, IsTrue}
 use Rattle.std.specs.Option.{option_or, option_map_or}
 use Rattle.node_page.specs.Nodes.{Entry, rises}
 use Rattle.btree_cow.specs.Shelf.{Shelf}
 use Rattle.btree_cow.specs.Trees.{TreeAt, nearest, value_of}
-use Rattle.btree_cow.specs.Causes.{Way}
-use Rattle.btree_cow.specs.Walks.{first_of}
+use Rattle.btree_cow.specs.Walks.{first_of, EndsAt}
+use Rattle.btree_cow.specs.Barred.{IsBeside}
 use Rattle.btree_cow.specs.declared.walk.Place.{Place}
 
 -- the entries of the place where the search goes on, and none where there is none
@@ -24,10 +24,18 @@ pub record Finds (ok : ℕ → ℕ → Bool) (s : Shelf) (with up : Bool) (q : �
   pub near : nearest with up entries q ≡ option_or entry (first_of up rest)
   pub remains : Remains ok s second rest
 
--- a place on a way that goes on from another one, and not too deep
-pub record IsWithin (tells : Bool) (s : Shelf) (from place : Place) : Type 0 where
+-- a place that is neither too deep nor above another one
+pub record IsWithin (from place : Place) : Type 0 where
   pub shallow : place.depth ≤ 9
-  pub way : IsTrue tells → (root : ℕ) → Way s from.depth root from.at → Way s place.depth root place.at
+  pub under : place.at ≤ from.at
+
+-- a place is the sibling nearest to the end of a way from another one, and the way ends with an entry or none
+pub record IsNearest (s : Shelf) (with up : Bool) (q : ℕ) (from place : Place) (entry : Option Entry) : Type 0 where
+  pub depth : ℕ
+  pub deeper : place.depth ≡ from.depth + depth
+  pub block : ℕ
+  pub beside : IsBeside s up q from.at depth place.at block
+  pub end : EndsAt s with up q block entry
 
 -- the block of a place
 abbrev pub block_of : Option Place → Option ℕ

@@ -8,7 +8,7 @@ use Rattle.node_page.specs.Nodes.{Entry, IsNode, rises}
 use Rattle.node_page.specs.declared.page.Page.{Page}
 use Rattle.btree_cow.specs.Shelf.{Shelf, Later, Adds}
 use Rattle.btree_cow.specs.Trees.{lies_in, Fan, NodeAt, TreeAt}
-use Rattle.btree_cow.specs.Causes.{Way, IsNoNode, HasHighChild, is_full}
+use Rattle.btree_cow.specs.Causes.{is_full}
 use Rattle.btree_cow.specs.Changes.{with_entry, StaysWell, SameLimits}
 use Rattle.btree_cow.specs.declared.grown.Grown.{Grown}
 use Rattle.btree_cow.specs.declared.grown.Grown.TheVariants.{One, Two}
@@ -126,16 +126,3 @@ GoesDown tells left s at links = (links ≡ left) ⊎ HasHeight tells s at links
 abbrev pub AppendFails : Shelf → ℕ → ℕ → Refusal → Type 0
 AppendFails new before after why =
     ((why ≡ Refusal.DiskFault) × (risen before ≤ after)) ⊎ ((why ≡ is_full new) × (new.most ≤ new.used))
-
--- a block on a way of at most so many links, by which there is no tree
-pub record BreaksBelow (s : Shelf) (left root block : ℕ) : Type 0 where
-  pub depth : ℕ
-  pub reached : Way s depth root block
-  pub shallow : depth ≤ left
-  pub broken : IsNoNode s block ⊎ HasHighChild s block ⊎ ((left ≤ depth) × (children : List Entry) × NodeAt s block false children)
-
--- the reasons not to put into a tree
-abbrev pub PutFails : Bool → ℕ → ℕ → Shelf → Shelf → ℕ → ℕ → Refusal → Type 0
-PutFails tells left at old new before after why =
-    AppendFails new before after why
-    ⊎ ((block : ℕ) × (why ≡ Refusal.Damaged old.file block) × (IsTrue tells → BreaksBelow old left at block))

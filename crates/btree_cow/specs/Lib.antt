@@ -4,8 +4,10 @@ pub mod Trees
 pub mod Causes
 pub mod Changes
 pub mod Walks
+pub mod Barred
 pub mod Finds
 pub mod Growing
 pub mod Copies
 pub mod Shrinking
 pub mod Takes
+pub mod Refused

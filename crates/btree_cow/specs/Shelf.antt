@@ -5,8 +5,10 @@ use Rattle.block_host.specs.Found.{found_in}
 use Rattle.block_host.specs.Sealed.{IsSealed}
 use Rattle.block_host.specs.declared.block.Block.{Block}
 use Rattle.doc_stream.specs.Causes.{BreaksRecord}
+use Rattle.doc_stream.specs.Memory.{HasHeadAt}
 use Rattle.doc_stream.specs.OpenBlock.{OpenBlock}
 use Rattle.doc_stream.specs.Reading.{RecordAt}
+use Rattle.doc_stream.specs.Shown.{Unsealed, open_file}
 use Rattle.forest_model.specs.declared.stored.Rec.{Rec}
 use Rattle.node_page.specs.Found.{page_of}
 use Rattle.node_page.specs.Pages.{IsPage}
@@ -75,6 +77,14 @@ GoesByContent s = (at : ℕ) → s.blocks at ≡ stored_in s.file s.content at
 -- the record at an address
 abbrev pub HasRecord : Shelf → ℕ → Rec → Type 0
 HasRecord s address rec = RecordAt s.file s.seen s.tail address rec
+
+-- a block from which records are read is neither open nor sealed
+abbrev pub IsUnsealed : Shelf → ℕ → Type 0
+IsUnsealed s at = Unsealed (open_file s.file s.tail) s.seen at
+
+-- the block of an address shows a byte there, and a whole head stands from this one on
+abbrev pub HasHead : Shelf → ℕ → Type 0
+HasHead s address = HasHeadAt (open_file s.file s.tail) s.seen address
 
 -- a block by which there is no record at an address
 abbrev pub BreaksAt : Shelf → ℕ → ℕ → Type 0

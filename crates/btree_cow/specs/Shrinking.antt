@@ -1,13 +1,11 @@
 -- What a removal makes of a node on its way, and of the file.
-use Rattle.std.specs.Prelude.{◌≡◌, ◌⊎◌, ℕ, zero, suc, ◌+◌, ◌-◌, ◌<◌, ◌≤◌, Bool, true, false, List, ◌∷◌, ◌++◌, length, remove, slice_set, slice_index_or, Option, Some, None, IsTrue, if◌then◌else◌}
+use Rattle.std.specs.Prelude.{◌≡◌, ℕ, zero, suc, ◌+◌, ◌-◌, ◌<◌, ◌≤◌, Bool, true, false, List, ◌∷◌, ◌++◌, length, remove, slice_set, slice_index_or, Option, Some, None, IsTrue, if◌then◌else◌}
 use Rattle.std.specs.List.{list_all}
-use Rattle.forest_model.specs.declared.refusal.Refusal.{Refusal}
 use Rattle.node_page.specs.Nodes.{Entry, rises}
 use Rattle.btree_cow.specs.Shelf.{Shelf, LieBelow, Later}
 use Rattle.btree_cow.specs.Trees.{lies_in, border, Fan, NodeAt, TreeAt, Tree}
-use Rattle.btree_cow.specs.Causes.{IsAmong, IsNoNode}
 use Rattle.btree_cow.specs.Changes.{with_entry, without_entry, StaysWell}
-use Rattle.btree_cow.specs.Growing.{AppendFails, IsCut}
+use Rattle.btree_cow.specs.Growing.{IsCut}
 use Rattle.btree_cow.specs.declared.grown.Grown.{Grown}
 use Rattle.btree_cow.specs.declared.grown.Grown.TheVariants.{One, Two}
 use Rattle.btree_cow.specs.declared.shrunk.Shrunk.{Shrunk}
@@ -120,18 +118,6 @@ pub record Refills (leaf : Bool) (content children : List Entry) (place : ℕ) (
   pub each : (ok : ℕ → ℕ → Bool) (height low : ℕ) (high : Option ℕ) (entries : List Entry) → StaysWell ok → 2 ≤ length children
       → Gap ok old height leaf content children place low high entries
       → Content ok new (suc height) false after low high entries × (length children ≤ length after + 1)
-
--- a block by which there is no tree below a node: a child that is no node, or the node itself, with a child that isn't below it
-abbrev pub BreaksNode : List Entry → ℕ → Shelf → ℕ → Type 0
-BreaksNode children at s block =
-    ((c : Entry) × IsAmong c children × (c.1 ≡ block) × IsNoNode s block)
-    ⊎ ((block ≡ at) × (c : Entry) × IsAmong c children × (at ≤ c.1))
-
--- the reasons not to fill a gap among the children of a node in a block
-abbrev pub RefillFails : Bool → List Entry → ℕ → Shelf → Shelf → ℕ → ℕ → Refusal → Type 0
-RefillFails tells children at old new before after why =
-    AppendFails new before after why
-    ⊎ ((block : ℕ) × (why ≡ Refusal.Damaged old.file block) × (IsTrue tells → BreaksNode children at old block))
 
 -- what became of a child leads to what becomes of its node
 pub record Passes (children : List Entry) (place : ℕ) (shrunk : Shrunk) (old new : Shelf) (result : Shrunk) : Type 0 where

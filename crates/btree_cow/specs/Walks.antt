@@ -1,5 +1,5 @@
 -- What a walk down a tree finds on its way.
-use Rattle.std.specs.Prelude.{◌≡◌, ◌⊎◌, ℕ, zero, suc, ◌-◌, ◌^◌, ◌≤◌, Bool, true, false, not, List, [], ◌∷◌, ◌++◌, length, take, drop, nat_lt, Option, Some, None, IsTrue, if◌then◌else◌}
+use Rattle.std.specs.Prelude.{◌≡◌, ◌⊎◌, ℕ, zero, suc, ◌-◌, ◌^◌, ◌<◌, ◌≤◌, Bool, true, false, not, List, [], ◌∷◌, ◌++◌, length, take, drop, nat_lt, Option, Some, None, IfSome, IsTrue, if◌then◌else◌}
 use Rattle.std.specs.List.{list_all}
 use Rattle.std.specs.Option.{option_or}
 use Rattle.node_page.specs.Nodes.{Entry}
@@ -49,12 +49,13 @@ GoesOn Stands with up q entries first (Some sibling) =
     (low : ℕ) × (high : Option ℕ) × (others : List Entry) × Stands sibling low high others
     × (nearest with up entries q ≡ option_or (nearest with up first q) (first_of up others))
 
--- so many links lead down from a block to another, each from an inner node to the child in which a chunk can lie
+-- so many links lead down from a block to another, each from an inner node to the child in which a chunk can lie, which
+-- is below it
 abbrev pub WayFor : Shelf → Bool → ℕ → ℕ → ℕ → ℕ → Type 0
 WayFor s up q zero at block = at ≡ block
 WayFor s up q (suc more) at block =
     (children : List Entry) × NodeAt s at false children × (child : ℕ) × (sibling : Option ℕ) × IsChoice up q children child sibling
-    × WayFor s up q more child block
+    × (child < at) × WayFor s up q more child block
 
 -- where a search of a chunk ends: at the nearest entry of a leaf, or over an inner node with all its chunks above
 abbrev pub EndsAt : Shelf → Bool → Bool → ℕ → ℕ → Option Entry → Type 0
@@ -70,12 +71,13 @@ pub record Reaches (s : Shelf) (with up : Bool) (q at : ℕ) (entry : Option Ent
   pub way : WayFor s up q links at block
   pub end : EndsAt s with up q block entry
 
--- so many links lead down as in `WayFor`, and the sibling beside the last of them that has one, else the earlier one
+-- so many links lead down as in `WayFor`, the siblings beside them too, and the one beside the last of them that has
+-- one, else the earlier one
 abbrev pub WayBeside : Shelf → Bool → ℕ → ℕ → ℕ → Option ℕ → ℕ → Option ℕ → Type 0
 WayBeside s up q zero at earlier block last = (at ≡ block) × (last ≡ earlier)
 WayBeside s up q (suc more) at earlier block last =
     (children : List Entry) × NodeAt s at false children × (child : ℕ) × (sibling : Option ℕ) × IsChoice up q children child sibling
-    × WayBeside s up q more child (option_or sibling earlier) block last
+    × (child < at) × IfSome sibling (λ (other : ℕ). other < at) × WayBeside s up q more child (option_or sibling earlier) block last
 
 -- what a search finds as in `Reaches`, and the sibling beside its way that is nearest to the end, where there is one
 pub record ReachesBeside (s : Shelf) (with up : Bool) (q at : ℕ) (entry : Option Entry) (last : Option ℕ) : Type 0 where

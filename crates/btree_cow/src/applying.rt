@@ -5,8 +5,9 @@ ghost use Rattle.node_page.specs.Nodes.{Entry};
 ghost use Rattle.btree_cow.specs.Shelf.{Later};
 ghost use Rattle.btree_cow.specs.Trees.{Tree};
 ghost use Rattle.btree_cow.specs.Causes.{is_full};
-ghost use Rattle.btree_cow.specs.Changes.{after_change, after_changes, changes_rise, is_absent, is_well, put_well, StaysWell, SameLimits, ChangeFails};
-ghost use Rattle.btree_cow.specs.Takes.{ApplyFails, MakesChange, Runs};
+ghost use Rattle.btree_cow.specs.Changes.{after_change, after_changes, changes_rise, is_absent, is_well, put_well, StaysWell, SameLimits};
+ghost use Rattle.btree_cow.specs.Takes.{MakesChange, Runs};
+ghost use Rattle.btree_cow.specs.Refused.{BreaksChange, BreaksRun, ChangeFails};
 
 use crate::Appender;
 use crate::inserting::insert;
@@ -24,7 +25,7 @@ fn apply_one<P: Appender>(
     ensures most { (P.shelf pages.new).used ≤ (P.shelf pages.old).used + 21 }
     ensures absent { IsTrue P.tells → (ok : ℕ → ℕ → Bool) (entries : List Entry) → Tree ok (P.shelf pages.old) root entries → IsTrue (is_absent entries change) → IfOk result (λ at. (at ≡ root) × (P.shelf pages.new ≡ P.shelf pages.old)) }
     ensures stands { IsTrue P.tells → (ok : ℕ → ℕ → Bool) (entries : List Entry) → Tree ok (P.shelf pages.old) root entries → IfErr result (λ why. (why ≡ Refusal.DiskFault) ⊎ (why ≡ is_full (P.shelf pages.new))) }
-    ensures reason { IfErr result (ChangeFails P.tells (P.shelf pages.old) (P.shelf pages.new) root (P.faults pages.old) (P.faults pages.new)) }
+    ensures reason { IfErr result (ChangeFails P.tells (BreaksChange (P.shelf pages.old) root change) (P.shelf pages.old) (P.shelf pages.new) (P.faults pages.old) (P.faults pages.new)) }
     ensures later { IsTrue P.tells → Later (P.shelf pages.old) (P.shelf pages.new) }
     ensures limits { SameLimits (P.shelf pages.old) (P.shelf pages.new) }
     ensures counts { P.faults pages.old ≤ P.faults pages.new }
@@ -37,7 +38,8 @@ fn apply_one<P: Appender>(
 }
 
 /// Makes changes in their order, and answers the new root: a value for a chunk, or none where the chunk is removed. New
-/// nodes are appended, at most 21 for each change, whatever is answered, and no old one changes.
+/// nodes are appended, at most 21 for each change, whatever is answered, and no old one changes. A damaged block that it
+/// names bars the first change that isn't made, in the tree that those of before made.
 pub fn apply<P: Appender>(
     pages: &mut P,
     root: Option<u64>,
@@ -49,7 +51,7 @@ pub fn apply<P: Appender>(
     ensures few { (P.shelf pages.new).used ≤ (P.shelf pages.old).used + 21 * length changes.now }
     ensures absent { IsTrue P.tells → (ok : ℕ → ℕ → Bool) (entries : List Entry) → Tree ok (P.shelf pages.old) root entries → IsTrue (list_all (is_absent entries) changes.now) → IfOk result (λ at. (at ≡ root) × (P.shelf pages.new ≡ P.shelf pages.old)) }
     ensures stands { IsTrue P.tells → (ok : ℕ → ℕ → Bool) (entries : List Entry) → Tree ok (P.shelf pages.old) root entries → IfErr result (λ why. (why ≡ Refusal.DiskFault) ⊎ (why ≡ is_full (P.shelf pages.new))) }
-    ensures reason { IfErr result (ApplyFails P.tells (P.shelf pages.old) (P.shelf pages.new) root changes.now (P.faults pages.old) (P.faults pages.new)) }
+    ensures reason { IfErr result (ChangeFails P.tells (BreaksRun changes.now root (P.shelf pages.old) (P.shelf pages.new)) (P.shelf pages.old) (P.shelf pages.new) (P.faults pages.old) (P.faults pages.new)) }
     ensures later { IsTrue P.tells → Later (P.shelf pages.old) (P.shelf pages.new) }
     ensures limits { SameLimits (P.shelf pages.old) (P.shelf pages.new) }
     ensures counts { P.faults pages.old ≤ P.faults pages.new }

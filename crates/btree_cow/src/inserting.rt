@@ -4,9 +4,11 @@ ghost use Rattle.node_page.specs.Nodes.{Entry};
 ghost use Rattle.btree_cow.specs.Shelf.{Later};
 ghost use Rattle.btree_cow.specs.Trees.{Tree, TreeAt};
 ghost use Rattle.btree_cow.specs.Causes.{is_full};
-ghost use Rattle.btree_cow.specs.Changes.{with_entry, StaysWell, SameLimits, ChangeFails};
+ghost use Rattle.btree_cow.specs.Changes.{with_entry, StaysWell, SameLimits};
+ghost use Rattle.btree_cow.specs.Barred.{NamesBelow};
+ghost use Rattle.btree_cow.specs.Refused.{BreaksDown, BreaksPut, ChangeFails, DownFails};
 ghost use Rattle.btree_cow.specs.Copies.{Copied, Inserts, last_block};
-ghost use Rattle.btree_cow.specs.Growing.{Appends, GoesDown, IsApart, PutFails, Puts};
+ghost use Rattle.btree_cow.specs.Growing.{Appends, GoesDown, IsApart, Puts};
 
 use crate::Appender;
 use crate::grown::Grown;
@@ -29,7 +31,7 @@ fn put<P: Appender>(
     ensures apart { IfOk result IsApart }
     ensures copied { IsTrue P.tells → IfOk result (Copied left at chunk value (P.shelf pages.old) (P.shelf pages.new)) }
     ensures last { IfOk result (λ grown. last_block grown + 1 ≡ (P.shelf pages.new).used) }
-    ensures reason { IfErr result (PutFails P.tells left at (P.shelf pages.old) (P.shelf pages.new) (P.faults pages.old) (P.faults pages.new)) }
+    ensures reason { IfErr result (DownFails P.tells (BreaksDown (P.shelf pages.old) left chunk at) at (P.shelf pages.old) (P.shelf pages.new) (P.faults pages.old) (P.faults pages.new)) }
     ensures few { (links : ℕ) → GoesDown P.tells left (P.shelf pages.old) at links → (P.shelf pages.new).used ≤ (P.shelf pages.old).used + (2 * links + 2) }
     ensures unwritten { (file block : ℕ) → result ≡ Err (Refusal.Damaged file block) → P.shelf pages.new ≡ P.shelf pages.old }
     ensures appends { Appends P.tells (P.shelf pages.old) (P.shelf pages.new) (P.faults pages.old) (P.faults pages.new) }
@@ -53,7 +55,8 @@ fn put<P: Appender>(
 
 /// Puts a value for a chunk, in place of an older one, and answers the new root, the last block of the file. A copy of
 /// each node on the way is appended, two where the old one was full, and a new root where that was; no old one changes.
-/// Whatever it answers, at most 21 nodes were appended, and none where it answers a damaged block.
+/// Whatever it answers, at most 21 nodes were appended, and none where it answers a damaged block. Such a block is on the
+/// chunk's way from the root: it is no node, has the next child not below it, or is an inner node at the end of nine links.
 pub fn insert<P: Appender>(
     pages: &mut P,
     root: Option<u64>,
@@ -67,7 +70,8 @@ pub fn insert<P: Appender>(
     ensures unwritten { (file block : ℕ) → result ≡ Err (Refusal.Damaged file block) → P.shelf pages.new ≡ P.shelf pages.old }
     ensures last { IfOk result (λ at. at + 1 ≡ (P.shelf pages.new).used) }
     ensures stands { IsTrue P.tells → (ok : ℕ → ℕ → Bool) (entries : List Entry) → Tree ok (P.shelf pages.old) root entries → IfErr result (λ why. (why ≡ Refusal.DiskFault) ⊎ (why ≡ is_full (P.shelf pages.new))) }
-    ensures reason { IfErr result (ChangeFails P.tells (P.shelf pages.old) (P.shelf pages.new) root (P.faults pages.old) (P.faults pages.new)) }
+    ensures reason { IfErr result (ChangeFails P.tells (BreaksPut (P.shelf pages.old) root chunk) (P.shelf pages.old) (P.shelf pages.new) (P.faults pages.old) (P.faults pages.new)) }
+    ensures asked { IfErr result (NamesBelow (P.shelf pages.old).file root) }
     ensures later { IsTrue P.tells → Later (P.shelf pages.old) (P.shelf pages.new) }
     ensures limits { SameLimits (P.shelf pages.old) (P.shelf pages.new) }
     ensures counts { P.faults pages.old ≤ P.faults pages.new }

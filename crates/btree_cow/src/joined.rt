@@ -3,8 +3,9 @@ ghost use Rattle.forest_model.specs.declared.refusal.Refusal.TheVariants as Refu
 ghost use Rattle.node_page.specs.Nodes.{Entry, rises};
 ghost use Rattle.btree_cow.specs.Copies.{Makes};
 ghost use Rattle.btree_cow.specs.Takes.{LeftAlone, Refilled};
+ghost use Rattle.btree_cow.specs.Refused.{BreaksPair, DownFails};
 ghost use Rattle.btree_cow.specs.Growing.{Appends, AppendFails, IsApart, Stores, first_chunk};
-ghost use Rattle.btree_cow.specs.Shrinking.{IsNeighbour, RefillFails, Refills, first_place, led_to, side_by_side, with_joined};
+ghost use Rattle.btree_cow.specs.Shrinking.{IsNeighbour, Refills, first_place, led_to, side_by_side, with_joined};
 
 use crate::Appender;
 use crate::grown::Grown;
@@ -206,10 +207,10 @@ pub(crate) fn refill<P: Appender>(
     requires few { length short.now.entries.items < 126 }
     requires second { IsTrue (rises short.now.entries.items) }
     ensures refills { IsTrue P.tells → OnOk result (Refills short.now.leaf short.now.entries.items children.old.items place (P.shelf pages.old) (P.shelf pages.new) children.new.items) }
-    ensures refilled { IsTrue P.tells → OnOk result (Refilled short.now.leaf short.now.entries.items children.old.items place (P.shelf pages.old) (P.shelf pages.new) children.new.items) }
+    ensures refilled { IsTrue P.tells → OnOk result (Refilled at short.now.leaf short.now.entries.items children.old.items place (P.shelf pages.old) (P.shelf pages.new) children.new.items) }
     ensures rise { OnOk result (IsTrue (rises children.new.items)) }
     ensures most { OnOk result (length children.new.items ≤ length children.old.items) }
-    ensures reason { IfErr result (RefillFails P.tells children.old.items at (P.shelf pages.old) (P.shelf pages.new) (P.faults pages.old) (P.faults pages.new)) }
+    ensures reason { IfErr result (DownFails P.tells (BreaksPair children.old.items place at (P.shelf pages.old)) at (P.shelf pages.old) (P.shelf pages.new) (P.faults pages.old) (P.faults pages.new)) }
     ensures few { (P.shelf pages.new).used ≤ (P.shelf pages.old).used + 2 }
     ensures appends { Appends P.tells (P.shelf pages.old) (P.shelf pages.new) (P.faults pages.old) (P.faults pages.new) }
     ensures untroubled { result ≢ Err Refusal.DiskFault → P.faults pages.new ≡ P.faults pages.old }

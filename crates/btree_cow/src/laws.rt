@@ -1,11 +1,11 @@
-ghost use Rattle.std.specs.Prelude.{◌≡◌, ◌<◌, ◌≤◌, ◌++◌, ℕ, Bool, List, length, slice_get, Option, Some, IsTrue};
+ghost use Rattle.std.specs.Prelude.{◌≡◌, ◌<◌, ◌≤◌, ◌++◌, ℕ, Bool, true, List, length, slice_get, Option, Some, IsTrue};
 ghost use Rattle.block_host.specs.declared.block.Block.{Block};
 ghost use Rattle.node_page.specs.Nodes.{Entry, rises};
 ghost use Rattle.node_page.specs.declared.page.Page.{Page};
 ghost use Rattle.btree_cow.specs.Causes.{IsAmong};
 ghost use Rattle.btree_cow.specs.Changes.{with_entry, without_entry};
 ghost use Rattle.btree_cow.specs.Shelf.{Shelf, Stored, Later, LieBelow, GoesByContent, SealsPage, stored_in};
-ghost use Rattle.btree_cow.specs.Trees.{Tree};
+ghost use Rattle.btree_cow.specs.Trees.{NodeAt, Tree};
 
 use block_host::found_where_sealed;
 use node_page::payload_has_one_page;
@@ -42,7 +42,7 @@ pub fn entries_rise()
 /// Each value of a tree is well at the block of its leaf, which isn't above the root.
 pub fn values_are_well()
     ensures { (ok : ℕ → ℕ → Bool) (s : Shelf) (root : ℕ) (entries : List Entry) (e : Entry) → Tree ok s (Some root) entries → IsAmong e entries
-        → (leaf : ℕ) × (leaf ≤ root) × IsTrue (ok leaf e.1) }
+        → (leaf : ℕ) × (leaf ≤ root) × IsTrue (ok leaf e.1) × (content : List Entry) × NodeAt s leaf true content × IsAmong e content }
 {}
 
 /// A tree whose values are well by one test is one by each test that asks no more.

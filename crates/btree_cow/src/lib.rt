@@ -9,10 +9,10 @@
 //!
 //! On any blocks it promises that `find` answers what stands at the end of the chunk's way, and `next` the entry there,
 //! else the first one below the sibling nearest to this end, each block on these ways being a node; that behind a change
-//! copies of the nodes on its way stand in the file, with all their other children, and as many blocks were appended;
-//! and that a damaged block lies below the root that was given, or below one that an earlier change of the same run
-//! made. Whatever a change answers, it has appended at most 21 nodes; an insert that names a damaged block has appended
-//! none.
+//! copies of the nodes on its way stand in new blocks, with all their other children, and as many blocks were appended;
+//! and that a damaged block is on the way itself, by which it goes no further, or the neighbour of a node that a removal
+//! left short. A way leads down by blocks of lower and lower numbers. Whatever a change answers, it has appended at most
+//! 21 nodes; an insert that names a damaged block has appended none.
 //!
 //! `find` asks for at most ten pages, one a level. `next` asks for at most nineteen: ten down the chunk's way, and nine
 //! down from the sibling, which stands below the root.

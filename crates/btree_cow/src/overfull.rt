@@ -1,6 +1,5 @@
-ghost use Rattle.std.specs.Prelude.{◌≡◌, ◌⊎◌, ◌<◌, ◌≤◌, Bool, List, length, IsTrue, IfSome, IfNone};
+ghost use Rattle.std.specs.Prelude.{◌≡◌, ◌⊎◌, ◌<◌, ◌≤◌, ℕ, Bool, List, length, IsTrue, IfSome, IfNone};
 ghost use Rattle.node_page.specs.Nodes.{Entry, rises};
-ghost use Rattle.btree_cow.specs.Causes.{IsAmong};
 ghost use Rattle.btree_cow.specs.Changes.{with_entry};
 ghost use Rattle.btree_cow.specs.Growing.{IsCount, IsCut, IsChild, is_at, with_block, with_child};
 
@@ -76,7 +75,7 @@ pub(crate) fn child_for(
     requires rise { IsTrue (rises children.now) }
     ensures found { IfSome result (λ child. IsChild children.now chunk child.0 child.1) }
     ensures lower { IfSome result (λ child. (0 < left) × (child.1 < at)) }
-    ensures none { IfNone result ((left ≡ 0) ⊎ ((c : Entry) × IsAmong c children.now × (at ≤ c.1))) }
+    ensures none { IfNone result ((left ≡ 0) ⊎ ((place : ℕ) × (child : ℕ) × IsChild children.now chunk place child × (at ≤ child))) }
 {
     let place = child_place(children, chunk);
     let block = children[place].1;

@@ -1,8 +1,8 @@
-ghost use Rattle.std.specs.Prelude.{◌≡◌, ◌≢◌, ◌⊎◌, ◌+◌, ◌^◌, ◌<◌, ◌≤◌, ℕ, Bool, List, IsTrue, Ok, Err, IfOk, IfErr, OnOk};
+ghost use Rattle.std.specs.Prelude.{◌≡◌, ◌≢◌, ◌⊎◌, ◌+◌, ◌/◌, ◌^◌, ◌<◌, ◌≤◌, ℕ, Bool, List, IsTrue, Ok, Err, IfOk, IfErr, OnOk};
 ghost use Rattle.forest_model.specs.declared.refusal.Refusal.TheVariants as Refusal;
 ghost use Rattle.forest_model.specs.declared.stored.Rec.{Rec};
 ghost use Rattle.node_page.specs.Pages.{IsPage};
-ghost use Rattle.btree_cow.specs.Shelf.{Shelf, LieBelow, GoesByContent, HasRecord, Adds, Counted, is_stored};
+ghost use Rattle.btree_cow.specs.Shelf.{Shelf, LieBelow, GoesByContent, HasHead, HasRecord, IsUnsealed, Adds, Counted, is_stored};
 ghost use Rattle.btree_cow.specs.Causes.{PageFails, AddFails, DocumentFails, is_full};
 
 use forest_model::{Rec, Refusal};
@@ -38,10 +38,13 @@ pub trait Pages {
 
 /// Gives the records of the file too.
 pub trait Docs: Pages {
-    /// The record at an address.
+    /// The record at an address. Memory is taken only behind a whole head, and where the address's own block is neither
+    /// open nor sealed this is the answer.
     fn document(&mut self, address: u64) -> Result<Rec, Refusal>
         ensures given { IsTrue Self.tells → IfOk result (HasRecord (Self.shelf self.old) address) }
         ensures exact { IsTrue Self.tells → (rec : Rec) → HasRecord (Self.shelf self.old) address rec → (result ≡ Ok rec) ⊎ (result ≡ Err Refusal.NoMemory) ⊎ (result ≡ Err Refusal.DiskFault) }
+        ensures first { IsTrue Self.tells → IsUnsealed (Self.shelf self.old) (address / 4096) → (result ≡ Err (Refusal.Damaged (Self.shelf self.old).file (address / 4096))) ⊎ (result ≡ Err Refusal.DiskFault) }
+        ensures memory { IsTrue Self.tells → result ≡ Err Refusal.NoMemory → HasHead (Self.shelf self.old) address }
         ensures reason { IfErr result (DocumentFails Self.tells (Self.shelf self.old) address (Self.faults self.old) (Self.faults self.new)) }
         ensures kept { Self.shelf self.new ≡ Self.shelf self.old }
         ensures counts { Self.faults self.old ≤ Self.faults self.new }

@@ -4,10 +4,12 @@ ghost use Rattle.node_page.specs.Nodes.{Entry, rises};
 ghost use Rattle.btree_cow.specs.Shelf.{Later, Shelf};
 ghost use Rattle.btree_cow.specs.Trees.{NodeAt, Tree, TreeAt, value_of};
 ghost use Rattle.btree_cow.specs.Causes.{is_full};
-ghost use Rattle.btree_cow.specs.Changes.{without_entry, StaysWell, SameLimits, ChangeFails};
-ghost use Rattle.btree_cow.specs.Growing.{Appends, AppendFails, GoesDown, PutFails};
+ghost use Rattle.btree_cow.specs.Changes.{without_entry, StaysWell, SameLimits};
+ghost use Rattle.btree_cow.specs.Barred.{NamesBelow};
+ghost use Rattle.btree_cow.specs.Refused.{BreaksShort, BreaksTake, BreaksTaking, ChangeFails, DownFails};
+ghost use Rattle.btree_cow.specs.Growing.{Appends, AppendFails, GoesDown};
 ghost use Rattle.btree_cow.specs.Takes.{Passed, RootLeft, Settled, Taken, Takes, TakesOut, most_stored, stored_count};
-ghost use Rattle.btree_cow.specs.Shrinking.{IsChanged, IsSame, IsShort, Passes, RefillFails, Removes, Roots, Settles};
+ghost use Rattle.btree_cow.specs.Shrinking.{IsChanged, IsSame, IsShort, Passes, Removes, Roots, Settles};
 
 use crate::Appender;
 use crate::joined::{lead_to, refill};
@@ -90,10 +92,10 @@ fn pass_up<P: Appender>(
     requires rise { IsTrue (rises node.entries.items) }
     requires short { IsShort shrunk }
     ensures passes { IsTrue P.tells → node.leaf ≡ false → IfOk result (Passes node.entries.items place shrunk (P.shelf pages.old) (P.shelf pages.new)) }
-    ensures passed { IsTrue P.tells → node.leaf ≡ false → IfOk result (Passed node.entries.items place shrunk (P.shelf pages.old) (P.shelf pages.new)) }
+    ensures passed { IsTrue P.tells → node.leaf ≡ false → IfOk result (Passed at node.entries.items place shrunk (P.shelf pages.old) (P.shelf pages.new)) }
     ensures same { IfOk result (λ s. (first : Shelf) → IsSame first (P.shelf pages.old) shrunk → IsSame first (P.shelf pages.new) s) }
     ensures short { IfOk result IsShort }
-    ensures reason { IfErr result (RefillFails P.tells node.entries.items at (P.shelf pages.old) (P.shelf pages.new) (P.faults pages.old) (P.faults pages.new)) }
+    ensures reason { IfErr result (DownFails P.tells (BreaksShort shrunk node.entries.items place at (P.shelf pages.old)) at (P.shelf pages.old) (P.shelf pages.new) (P.faults pages.old) (P.faults pages.new)) }
     ensures few { (P.shelf pages.new).used + stored_count shrunk ≤ (P.shelf pages.old).used + (2 + most_stored result) }
     ensures appends { Appends P.tells (P.shelf pages.old) (P.shelf pages.new) (P.faults pages.old) (P.faults pages.new) }
     ensures untroubled { result ≢ Err Refusal.DiskFault → P.faults pages.new ≡ P.faults pages.old }
@@ -117,7 +119,7 @@ fn remove_from<P: Appender>(pages: &mut P, at: u64, left: u8, chunk: u64) -> Res
     ensures taken { IsTrue P.tells → IfOk result (Taken left at chunk (P.shelf pages.old) (P.shelf pages.new)) }
     ensures short { IfOk result IsShort }
     ensures same { IfOk result (IsSame (P.shelf pages.old) (P.shelf pages.new)) }
-    ensures reason { IfErr result (PutFails P.tells left at (P.shelf pages.old) (P.shelf pages.new) (P.faults pages.old) (P.faults pages.new)) }
+    ensures reason { IfErr result (DownFails P.tells (BreaksTaking (P.shelf pages.old) left chunk at) at (P.shelf pages.old) (P.shelf pages.new) (P.faults pages.old) (P.faults pages.new)) }
     ensures few { (links : ℕ) → GoesDown P.tells left (P.shelf pages.old) at links → (P.shelf pages.new).used ≤ (P.shelf pages.old).used + (2 * links + most_stored result) }
     ensures appends { Appends P.tells (P.shelf pages.old) (P.shelf pages.new) (P.faults pages.old) (P.faults pages.new) }
     ensures untroubled { result ≢ Err Refusal.DiskFault → P.faults pages.new ≡ P.faults pages.old }
@@ -170,7 +172,8 @@ fn root_of<P: Appender>(pages: &mut P, node: &Node) -> Result<Option<u64>, Refus
 
 /// Removes a chunk, and answers the new root: none where nothing is left. An absent chunk leaves the root and appends
 /// nothing. A copy of each node on the way is appended, joined with its neighbour where it got short, and no old one
-/// changes. Whatever it answers, at most 21 nodes were appended.
+/// changes. Whatever it answers, at most 21 nodes were appended. A damaged block that it names is on the chunk's way from
+/// the root, or the neighbour of a node on it that got short.
 pub fn remove<P: Appender>(
     pages: &mut P,
     root: Option<u64>,
@@ -182,7 +185,8 @@ pub fn remove<P: Appender>(
     ensures most { (P.shelf pages.new).used ≤ (P.shelf pages.old).used + 21 }
     ensures absent { IsTrue P.tells → (ok : ℕ → ℕ → Bool) (entries : List Entry) → Tree ok (P.shelf pages.old) root entries → value_of entries chunk ≡ None → IfOk result (λ at. (at ≡ root) × (P.shelf pages.new ≡ P.shelf pages.old)) }
     ensures stands { IsTrue P.tells → (ok : ℕ → ℕ → Bool) (entries : List Entry) → Tree ok (P.shelf pages.old) root entries → IfErr result (λ why. (why ≡ Refusal.DiskFault) ⊎ (why ≡ is_full (P.shelf pages.new))) }
-    ensures reason { IfErr result (ChangeFails P.tells (P.shelf pages.old) (P.shelf pages.new) root (P.faults pages.old) (P.faults pages.new)) }
+    ensures reason { IfErr result (ChangeFails P.tells (BreaksTake (P.shelf pages.old) root chunk) (P.shelf pages.old) (P.shelf pages.new) (P.faults pages.old) (P.faults pages.new)) }
+    ensures asked { IfErr result (NamesBelow (P.shelf pages.old).file root) }
     ensures later { IsTrue P.tells → Later (P.shelf pages.old) (P.shelf pages.new) }
     ensures limits { SameLimits (P.shelf pages.old) (P.shelf pages.new) }
     ensures counts { P.faults pages.old ≤ P.faults pages.new }

@@ -2,7 +2,7 @@ ghost use Rattle.std.specs.Prelude.{◌≡◌, ◌≢◌, ◌+◌, Err, ◌<◌,
 ghost use Rattle.forest_model.specs.declared.refusal.Refusal.TheVariants as Refusal;
 ghost use Rattle.node_page.specs.Nodes.{Entry, IsNode, rises};
 ghost use Rattle.btree_cow.specs.Trees.{NodeAt};
-ghost use Rattle.btree_cow.specs.Causes.{IsNoNode, Reason};
+ghost use Rattle.btree_cow.specs.Barred.{NodeFails};
 ghost use Rattle.btree_cow.specs.Copies.{Makes, last_block};
 ghost use Rattle.btree_cow.specs.Growing.{AddsNode, Appends, AppendFails, IsApart, IsRead, Stores, first_chunk};
 
@@ -34,7 +34,7 @@ fn entries_of(page: &Page, count: u16) -> Overfull
 /// The node of a block.
 pub(crate) fn read_node<P: Pages>(pages: &mut P, at: u64) -> Result<Node, Refusal>
     ensures node { IfOk result (λ node. IsRead P.tells (P.shelf pages.old) at node.leaf node.entries.items) }
-    ensures reason { IfErr result (Reason P.tells (P.shelf pages.old).file (λ block. (block ≡ at) × IsNoNode (P.shelf pages.old) at) (P.faults pages.old) (P.faults pages.new)) }
+    ensures reason { IfErr result (NodeFails P.tells (P.shelf pages.old) at (P.faults pages.old) (P.faults pages.new)) }
     ensures kept { P.shelf pages.new ≡ P.shelf pages.old }
     ensures counts { P.faults pages.old ≤ P.faults pages.new }
     ensures untroubled { result ≢ Err Refusal.DiskFault → P.faults pages.new ≡ P.faults pages.old }

@@ -5,9 +5,10 @@ ghost use Rattle.forest_model.specs.declared.refusal.Refusal.TheVariants as Refu
 ghost use Rattle.node_page.specs.Nodes.{Entry, IsNode};
 ghost use Rattle.btree_cow.specs.Shelf.{is_stored};
 ghost use Rattle.btree_cow.specs.Trees.{TreeAt};
-ghost use Rattle.btree_cow.specs.Causes.{Way, IsAmong, IsNoNode, BreaksTree, Reason};
+ghost use Rattle.btree_cow.specs.Barred.{BreaksOnWay, IsHigh, NamesUnder, NodeFails};
+ghost use Rattle.btree_cow.specs.Causes.{Reason};
 ghost use Rattle.btree_cow.specs.Walks.{IsChoice, ReachesBeside, edge};
-ghost use Rattle.btree_cow.specs.Finds.{Finds, IsWithin, block_of, next_place, lie_under};
+ghost use Rattle.btree_cow.specs.Finds.{Finds, IsNearest, IsWithin, block_of, next_place, lie_under};
 
 use crate::Pages;
 use crate::node_search::{Aim, Choice, choose, nearest_in};
@@ -35,9 +36,11 @@ pub(crate) struct Walked {
 pub(crate) fn walk<P: Pages>(pages: &mut P, from: Place, aim: Aim) -> Result<Walked, Refusal>
     requires { from.depth ≤ 9 }
     ensures found { IsTrue P.tells → (ok : ℕ → ℕ → Bool) (height least low : ℕ) (high : Option ℕ) (entries : List Entry) → TreeAt ok (P.shelf pages.old) height least from.at low high entries → IfOk result (λ w. Finds ok (P.shelf pages.old) aim.with aim.up aim.chunk entries w.entry w.second) }
-    ensures reason { IfErr result (λ why. (root : ℕ) → (IsTrue P.tells → Way (P.shelf pages.old) from.depth root from.at) → Reason P.tells (P.shelf pages.old).file (BreaksTree (P.shelf pages.old) root) (P.faults pages.old) (P.faults pages.new) why) }
+    ensures reason { IfErr result (Reason P.tells (P.shelf pages.old).file (BreaksOnWay (P.shelf pages.old) aim.up aim.chunk from.depth from.at) (P.faults pages.old) (P.faults pages.new)) }
+    ensures asked { IfErr result (NamesUnder (P.shelf pages.old).file from.at) }
     ensures reached { IsTrue P.tells → IfOk result (λ w. ReachesBeside (P.shelf pages.old) aim.with aim.up aim.chunk from.at w.entry (block_of w.second)) }
-    ensures within { IfOk result (λ w. IfSome w.second (λ place. IsWithin P.tells (P.shelf pages.old) from place)) }
+    ensures within { IfOk result (λ w. IfSome w.second (λ place. IsWithin from place)) }
+    ensures beside { IsTrue P.tells → IfOk result (λ w. IfSome w.second (λ place. IsNearest (P.shelf pages.old) aim.with aim.up aim.chunk from place w.entry)) }
     ensures all { aim.with ≡ true → aim.chunk ≡ edge aim.up → IfOk result (λ w. IsTrue (is_some w.entry)) }
     ensures kept { P.shelf pages.new ≡ P.shelf pages.old }
     ensures counts { P.faults pages.old ≤ P.faults pages.new }
@@ -71,7 +74,7 @@ pub(crate) fn walk<P: Pages>(pages: &mut P, from: Place, aim: Aim) -> Result<Wal
 fn node_at<P: Pages>(pages: &mut P, at: u64, page: &mut Page) -> Result<NodeHead, Refusal>
     ensures given { IfOk result (λ head. (entries : List Entry) × (head.count ≡ length entries) × IsNode page.new head.leaf entries) }
     ensures stored { IsTrue P.tells → OnOk result (is_stored (P.shelf pages.old) 2 at page.new) }
-    ensures reason { IfErr result (Reason P.tells (P.shelf pages.old).file (λ block. (block ≡ at) × IsNoNode (P.shelf pages.old) at) (P.faults pages.old) (P.faults pages.new)) }
+    ensures reason { IfErr result (NodeFails P.tells (P.shelf pages.old) at (P.faults pages.old) (P.faults pages.new)) }
     ensures kept { P.shelf pages.new ≡ P.shelf pages.old }
     ensures counts { P.faults pages.old ≤ P.faults pages.new }
     ensures untroubled { result ≢ Err Refusal.DiskFault → P.faults pages.new ≡ P.faults pages.old }
@@ -98,8 +101,8 @@ fn child_of<P: Pages>(
     requires most { head.count ≤ 253 }
     ensures shallow { OnOk result (here.depth < 9) }
     ensures chosen { (entries : List Entry) → IsNode page.now head.leaf entries → head.count ≡ length entries → IfOk result (λ found. MatchOption found ((aim.up ≡ false) × IsTrue (list_all (λ (e : Entry). nat_lt aim.chunk e.0) entries)) (λ c. IsChoice aim.up aim.chunk entries c.child c.sibling)) }
-    ensures below { IfOk result (λ found. IfSome found (λ c. c.child < here.at)) }
-    ensures reason { (entries : List Entry) → IsNode page.now head.leaf entries → head.count ≡ length entries → IfErr result (λ why. (why ≡ Refusal.Damaged (P.shelf pages.now).file here.at) × ((9 ≤ here.depth) ⊎ ((c : Entry) × IsAmong c entries × (here.at ≤ c.1)))) }
+    ensures below { IfOk result (λ found. IfSome found (λ c. (c.child < here.at) × IfSome c.sibling (λ other. other < here.at))) }
+    ensures reason { (entries : List Entry) → IsNode page.now head.leaf entries → head.count ≡ length entries → IfErr result (λ why. (why ≡ Refusal.Damaged (P.shelf pages.now).file here.at) × ((9 ≤ here.depth) ⊎ ((child : ℕ) × (sibling : Option ℕ) × IsChoice aim.up aim.chunk entries child sibling × IsHigh here.at child sibling))) }
 {
     let damaged = Refusal::Damaged {
         file: pages.file(),

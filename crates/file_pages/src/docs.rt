@@ -1,4 +1,4 @@
-ghost use Rattle.std.specs.Prelude.{◌≡◌, ◌≤◌, ℕ, Bool, List, IsTrue, OnOk, IfOk, IfErr};
+ghost use Rattle.std.specs.Prelude.{◌≡◌, ◌≢◌, ◌≤◌, ℕ, Bool, List, IsTrue, Err, IfOk, IfErr};
 ghost use Rattle.forest_model.specs.declared.refusal.Refusal.TheVariants as Refusal;
 ghost use Rattle.node_page.specs.Nodes.{Entry};
 ghost use Rattle.btree_cow.specs.Trees.{Tree, value_of};
@@ -79,7 +79,7 @@ pub(crate) fn find_by_view<V: View>(
     ensures stands { IsTrue V.tells → (ok : ℕ → ℕ → Bool) (entries : List Entry) → Tree ok (view_shelf (view.entry.ghost_name, 0) revision (told V.tells (V.content view.old)) tail.now) root entries → IfErr result (λ why. why ≡ Refusal.DiskFault) }
     ensures kept { told V.tells (V.content view.new) ≡ told V.tells (V.content view.old) }
     ensures counts { V.faults view.old ≤ V.faults view.new }
-    ensures untroubled { OnOk result (V.faults view.new ≡ V.faults view.old) }
+    ensures untroubled { result ≢ Err Refusal.DiskFault → V.faults view.new ≡ V.faults view.old }
 {
     let mut docs = FileDocs::new(alloc, view, tail, revision);
     find(&mut docs, root, chunk)

@@ -5,7 +5,9 @@ ghost use Rattle.block_host.specs.declared.block.Block.{Block};
 ghost use Rattle.block_host.specs.Calls.{block_at};
 ghost use Rattle.block_host.specs.Disk.{risen};
 ghost use Rattle.doc_stream.specs.Causes.{BreaksRecord, longest_run};
+ghost use Rattle.doc_stream.specs.Memory.{HasHeadAt};
 ghost use Rattle.doc_stream.specs.Reading.{RecordAt};
+ghost use Rattle.doc_stream.specs.Shown.{Unsealed, open_file};
 ghost use Rattle.btree_cow.specs.Shelf.{stored_in};
 ghost use Rattle.file_pages.specs.Files.{told, NoPage, IsPageIn};
 
@@ -68,6 +70,8 @@ pub(crate) fn record_of_view<V: View>(
 ) -> Result<Rec, Refusal>
     ensures given { IsTrue V.tells → IfOk result (RecordAt file (told V.tells (V.content view.old)) tail.now address) }
     ensures exact { IsTrue V.tells → (rec : Rec) → RecordAt file (told V.tells (V.content view.old)) tail.now address rec → (result ≡ Ok rec) ⊎ (result ≡ Err Refusal.NoMemory) ⊎ (result ≡ Err Refusal.DiskFault) }
+    ensures first { IsTrue V.tells → Unsealed (open_file file tail.now) (told V.tells (V.content view.old)) (address / 4096) → (result ≡ Err (Refusal.Damaged file (address / 4096))) ⊎ (result ≡ Err Refusal.DiskFault) }
+    ensures memory { IsTrue V.tells → result ≡ Err Refusal.NoMemory → HasHeadAt (open_file file tail.now) (told V.tells (V.content view.old)) address }
     ensures reason { IfErr result (λ why. (why ≡ Refusal.NoMemory) ⊎ ((why ≡ Refusal.DiskFault) × (risen (V.faults view.old) ≤ V.faults view.new)) ⊎ ((block : ℕ) × (why ≡ Refusal.Damaged file block) × (address / 4096 ≤ block) × (block ≤ address / 4096 + longest_run) × (IsTrue V.tells → BreaksRecord file (told V.tells (V.content view.old)) tail.now address block))) }
     ensures kept { told V.tells (V.content view.new) ≡ told V.tells (V.content view.old) }
     ensures counts { V.faults view.old ≤ V.faults view.new }

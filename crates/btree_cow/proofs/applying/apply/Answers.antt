@@ -27,7 +27,8 @@ pub returns-in_err-at-clause-reason : goal.returns-in_err-at-clause-reason
 returns-in_err-at-clause-reason g c =
     let p = err_from_is_err_and c.from_residual.result c.from_residual.ensures.1 in
     rw (p.1, p.2)
-    (left_fails g.P.Pages.tells (g.P.Pages.shelf c.args.pages.now) (g.P.Pages.shelf c.loop-change.pages) (g.P.Pages.shelf c.apply_one.new.pages) _ _ _ c.args.root c.loop-change.at c.args.changes.now _ _ c.loop-change.invariant c.in_err-at.ensures.later c.in_err-at.ensures.reason)
+    (left_fails g.P.Pages.tells (g.P.Pages.shelf c.args.pages.now) (g.P.Pages.shelf c.loop-change.pages) (g.P.Pages.shelf c.apply_one.new.pages) _ _ _ c.args.root c.loop-change.at c.args.changes.now
+    c.loop-change.change-index _ _ c.loop-change-test.true c.loop-change.invariant c.in_err-at.ensures.later c.in_err-at.ensures.reason)
 
 pub returns-clause-copies : goal.returns-clause-copies
 returns-clause-copies g c = λ told.

@@ -1,8 +1,10 @@
-use Rattle.std.proofs.Common.{◌+◌, ◌*◌, ◌∙◌, refl, arith}
+use Rattle.std.proofs.Common.{◌+◌, ◌-◌, ◌*◌, ◌∙◌, refl, arith}
 use Rattle.std.proofs.lemmas.Result.{err_from_is_err_and}
 use Rattle.btree_cow.proofs.Finds.{ok_never}
-use Rattle.btree_cow.proofs.Additions.{appends_after, read_fails}
-use Rattle.btree_cow.proofs.Insertions.{leaf_rises, leaf_put, inner_rises, inner_some, inner_put, nowhere_fails, below_fails}
+use Rattle.btree_cow.proofs.Additions.{appends_after}
+use Rattle.btree_cow.proofs.Insertions.{leaf_rises, leaf_put, inner_rises, inner_some, inner_put}
+use Rattle.btree_cow.proofs.Refused.{below_fails, down_more, none_here, nowhere_fails, read_fails}
+use Rattle.btree_cow.specs.Refused.{BreaksDown}
 use Rattle.btree_cow.proofs.BlockCounts.{after_read, inner_few, never_damaged, only_read}
 use Rattle.btree_cow.proofs.Copies.{copied_leaf, copied_inner}
 use Rattle.btree_cow.proofs.inserting.+put.Goals as goal
@@ -10,7 +12,8 @@ use Rattle.btree_cow.proofs.inserting.+put.Goals as goal
 pub returns-in_err-node-clause-reason : goal.returns-in_err-node-clause-reason
 returns-in_err-node-clause-reason g t c =
     let p = err_from_is_err_and c.from_residual.result c.from_residual.ensures.1 in
-    rw (p.1, p.2) (read_fails g.P.Pages.tells c.args.left c.args.at (g.P.Pages.shelf c.args.pages.now) (g.P.Pages.shelf c.read_node.new.pages) _ _ _ c.in_err-node.ensures.reason)
+    let s = g.P.Pages.shelf c.args.pages.now in
+    rw (p.1, p.2) (read_fails g.P.Pages.tells (BreaksDown s c.args.left c.args.chunk c.args.at) c.args.at s (g.P.Pages.shelf c.read_node.new.pages) _ _ _ (none_here s c.args.left c.args.chunk c.args.at) c.in_err-node.ensures.reason)
 
 pub store-requires-clause-rise : goal.store-requires-clause-rise
 store-requires-clause-rise g t c = leaf_rises c.as_slice.result.now c.put_entry.new.entries.items c.in_ok-node.node.entries.items c.args.chunk c.args.value c.as_slice.ensures.value c.put_entry.ensures c.in_ok-node.ensures.node.rise
@@ -22,16 +25,17 @@ returns-then-node-clause-puts g t c = λ told.
 
 pub returns-in_default-clause-reason : goal.returns-in_default-clause-reason
 returns-in_default-clause-reason g t c =
-    nowhere_fails g.P.Pages.tells c.args.left c.args.at c.file.result _ _ (g.P.Pages.shelf c.args.pages.now) (g.P.Pages.shelf c.read_node.new.pages) c.in_ok-node.node.leaf c.in_ok-node.node.entries.items c.as_slice-2.result.now
-    c.in_ok-node.ensures.kept c.file.ensures c.if-node.false c.in_ok-node.ensures.node c.as_slice-2.ensures.value c.in_default.ensures.none
+    nowhere_fails g.P.Pages.tells (BreaksDown (g.P.Pages.shelf c.args.pages.now) c.args.left c.args.chunk c.args.at) c.args.left c.args.at c.args.chunk c.file.result _ _ (g.P.Pages.shelf c.args.pages.now) (g.P.Pages.shelf c.read_node.new.pages)
+    c.in_ok-node.node.leaf c.in_ok-node.node.entries.items c.as_slice-2.result.now (λ b. b) c.in_ok-node.ensures.kept c.file.ensures c.if-node.false c.in_ok-node.ensures.node c.as_slice-2.ensures.value c.in_default.ensures.none
 
 pub returns-in_err-grown-clause-reason : goal.returns-in_err-grown-clause-reason
 returns-in_err-grown-clause-reason g t c =
     let p = err_from_is_err_and c.from_residual-in_err-grown.result c.from_residual-in_err-grown.ensures.1 in
     rw (p.1, p.2)
-    (below_fails g.P.Pages.tells c.args.left _ c.args.at c.args.chunk c.in-Some.place c.in-Some.child _ _ _ (g.P.Pages.shelf c.args.pages.now) (g.P.Pages.shelf c.read_node.new.pages) (g.P.Pages.shelf c.put.new.pages)
-    c.in_ok-node.node.leaf c.in_ok-node.node.entries.items c.as_slice-2.result.now _ c.in_ok-node.ensures.kept (c.in_ok-node.ensures.untroubled (ok_never _ _)) c.in-Some.ensures.lower.0 refl c.if-node.false c.in_ok-node.ensures.node c.as_slice-2.ensures.value
-    c.in-Some.ensures.found c.in_err-grown.ensures.reason)
+    (below_fails g.P.Pages.tells (λ s left q at block. BreaksDown s left q at block) c.args.left (c.args.left - 1) c.args.at c.args.chunk c.in-Some.place c.in-Some.child _ _ _ (g.P.Pages.shelf c.args.pages.now) (g.P.Pages.shelf c.read_node.new.pages)
+    (g.P.Pages.shelf c.put.new.pages) c.in_ok-node.node.leaf c.in_ok-node.node.entries.items c.as_slice-2.result.now _
+    (λ block node is b. down_more (g.P.Pages.shelf c.args.pages.now) c.args.left (c.args.left - 1) c.args.chunk c.args.at c.in-Some.place c.in-Some.child block c.in_ok-node.node.entries.items c.in-Some.ensures.lower.0 refl node is c.in-Some.ensures.lower.1 b)
+    c.in_ok-node.ensures.kept (c.in_ok-node.ensures.untroubled (ok_never _ _)) c.in-Some.ensures.lower.1 c.if-node.false c.in_ok-node.ensures.node c.as_slice-2.ensures.value c.in-Some.ensures.found c.in_err-grown.ensures.reason)
 
 pub store-requires-2-clause-rise : goal.store-requires-2-clause-rise
 store-requires-2-clause-rise g t c =
@@ -63,7 +67,7 @@ pub returns-clause-copied : goal.returns-clause-copied
 returns-clause-copied g t c = λ told.
     copied_inner g.P.Pages.tells (g.P.Pages.shelf c.args.pages.now) (g.P.Pages.shelf c.read_node.new.pages) (g.P.Pages.shelf c.put.new.pages) (g.P.Pages.shelf c.store-2.new.pages) c.store-2.result c.args.left _ c.args.at c.args.chunk c.args.value
     c.in-Some.place c.in-Some.child c.in_ok-node.node.leaf c.in_ok-node.node.entries.items c.as_slice-2.result.now c.replace_child.new.children.items c.as_slice-3.result.now c.in_ok-grown.grown told
-    c.in_ok-node.ensures.kept c.in-Some.ensures.lower.0 refl c.if-node.false c.in_ok-node.ensures.node c.as_slice-2.ensures.value c.in-Some.ensures.found (c.in_ok-grown.ensures.copied told) (c.store-2.ensures.appends.later told)
+    c.in_ok-node.ensures.kept c.in-Some.ensures.lower.0 refl c.if-node.false c.in_ok-node.ensures.node c.as_slice-2.ensures.value c.in-Some.ensures.found c.in-Some.ensures.lower.1 (c.in_ok-grown.ensures.copied told) (c.store-2.ensures.appends.later told)
     c.as_slice-3.ensures.value c.replace_child.ensures (c.store-2.ensures.makes told)
 
 pub returns-in_err-node-clause-few : goal.returns-in_err-node-clause-few

@@ -2,7 +2,9 @@ use Rattle.std.proofs.Common.{inl, refl, arith}
 use Rattle.std.proofs.lemmas.Result.{err_from_is_err_and}
 use Rattle.forest_model.specs.declared.refusal.Refusal.{Refusal}
 use Rattle.btree_cow.proofs.Growth.{later_on}
-use Rattle.btree_cow.proofs.Insertions.{root_fails, root_stands, root_grows}
+use Rattle.btree_cow.proofs.Insertions.{root_grows}
+use Rattle.btree_cow.proofs.Refused.{appends_name, down_tree, root_fails, root_names, root_stands}
+use Rattle.btree_cow.specs.Refused.{BreaksDown, BreaksPut}
 use Rattle.btree_cow.proofs.BlockCounts.{handed_on, never_damaged, root_down}
 use Rattle.btree_cow.proofs.Copies.{inserts_first, inserts_one, inserts_two}
 use Rattle.btree_cow.proofs.inserting.insert.Goals as goal
@@ -11,13 +13,27 @@ pub returns-in_err-block-clause-stands : goal.returns-in_err-block-clause-stands
 returns-in_err-block-clause-stands g c = λ told ok entries tree.
     let p = err_from_is_err_and c.from_residual.result c.from_residual.ensures.1 in
     rw (p.1, p.2)
-    (root_stands g.P.Pages.tells ok c.args.root c.in-Some.at (g.P.Pages.shelf c.args.pages.now) (g.P.Pages.shelf c.put.new.pages) _ _ _ entries told c.in-Some.is tree c.in_err-block.ensures.reason)
+    (root_stands g.P.Pages.tells (BreaksDown (g.P.Pages.shelf c.args.pages.now) 9 c.args.chunk c.in-Some.at) ok c.args.root c.in-Some.at (g.P.Pages.shelf c.args.pages.now) (g.P.Pages.shelf c.put.new.pages) _ _ _ entries
+    (down_tree (g.P.Pages.shelf c.args.pages.now) c.args.chunk c.in-Some.at) told c.in-Some.is tree c.in_err-block.ensures.reason)
 
 pub returns-in_err-block-clause-reason : goal.returns-in_err-block-clause-reason
 returns-in_err-block-clause-reason g c =
     let p = err_from_is_err_and c.from_residual.result c.from_residual.ensures.1 in
     rw (p.1, p.2)
-    (root_fails g.P.Pages.tells c.args.root c.in-Some.at (g.P.Pages.shelf c.args.pages.now) (g.P.Pages.shelf c.put.new.pages) _ _ _ c.in-Some.is c.in_err-block.ensures.reason)
+    (root_fails g.P.Pages.tells (BreaksDown (g.P.Pages.shelf c.args.pages.now) 9 c.args.chunk c.in-Some.at) (BreaksPut (g.P.Pages.shelf c.args.pages.now) c.args.root c.args.chunk) c.in-Some.at (g.P.Pages.shelf c.args.pages.now) (g.P.Pages.shelf c.put.new.pages) _ _ _
+    (λ block b. (c.in-Some.at, c.in-Some.is, b)) c.in_err-block.ensures.reason)
+
+pub returns-in_err-block-clause-asked : goal.returns-in_err-block-clause-asked
+returns-in_err-block-clause-asked g c =
+    let p = err_from_is_err_and c.from_residual.result c.from_residual.ensures.1 in
+    rw (p.1, p.2)
+    (root_names g.P.Pages.tells (BreaksDown (g.P.Pages.shelf c.args.pages.now) 9 c.args.chunk c.in-Some.at) c.args.root c.in-Some.at (g.P.Pages.shelf c.args.pages.now) (g.P.Pages.shelf c.put.new.pages) _ _ _ c.in-Some.is c.in_err-block.ensures.reason)
+
+pub returns-in_default-clause-asked : goal.returns-in_default-clause-asked
+returns-in_default-clause-asked g c = appends_name c.add_node.result (g.P.Pages.shelf c.add_node.new.pages) _ _ (g.P.Pages.shelf c.args.pages.now).file c.args.root c.add_node.ensures.reason
+
+pub returns-in-Two-clause-asked : goal.returns-in-Two-clause-asked
+returns-in-Two-clause-asked g c = appends_name c.add_node-in-Two.result (g.P.Pages.shelf c.add_node-in-Two.new.pages) _ _ (g.P.Pages.shelf c.args.pages.now).file c.args.root c.add_node-in-Two.ensures.reason
 
 pub returns-in-Two-clause-inserted : goal.returns-in-Two-clause-inserted
 returns-in-Two-clause-inserted g c = λ told ok entries well okay tree.

@@ -1,53 +1,63 @@
-use Rattle.std.proofs.Common.{refl, sym, ◌∙◌, subst}
-use Rattle.std.specs.Prelude.{Option, IfSome, IsTrue}
+use Rattle.std.proofs.Common.{sym, ◌∙◌}
 use Rattle.std.proofs.lemmas.Result.{err_from_is_err_and}
-use Rattle.btree_cow.specs.Shelf.{Shelf}
-use Rattle.btree_cow.specs.Causes.{Reason, BreaksFrom, Way}
-use Rattle.btree_cow.specs.Finds.{IsWithin, block_of}
-use Rattle.btree_cow.specs.declared.walk.Place.{Place}
+use Rattle.btree_cow.specs.Barred.{BreaksSearch}
+use Rattle.btree_cow.specs.Causes.{Reason}
+use Rattle.btree_cow.specs.Finds.{block_of}
 use Rattle.btree_cow.proofs.Finds.{ok_never}
-use Rattle.btree_cow.proofs.Breaks.{only_disk}
-use Rattle.btree_cow.proofs.Answered.{goes_on, reads_next, reason_from, reason_then}
-use Rattle.btree_cow.proofs.Ways.{never_next}
+use Rattle.btree_cow.proofs.Answered.{goes_on, reads_next}
+use Rattle.btree_cow.proofs.Bars.{names_from, names_then, search_disk, search_from, search_then}
+use Rattle.btree_cow.proofs.Ways.{never_barred}
 use Rattle.btree_cow.proofs.look_up.next.Given
 use Rattle.btree_cow.proofs.look_up.next.Goals as goal
 
 pub returns-in_err-near-clause-stands : goal.returns-in_err-near-clause-stands
 returns-in_err-near-clause-stands g c = λ told ok entries tree.
     let p = err_from_is_err_and c.from_residual.result c.from_residual.ensures.1 in
+    let s = g.P.Pages.shelf c.args.pages.now in
     rw (p.1, p.2)
-    (only_disk g.P.Pages.tells ok (g.P.Pages.shelf c.args.pages.now) c.args.root entries (g.P.Pages.shelf c.args.pages.now).file (g.P.Pages.faults c.args.pages.now) (g.P.Pages.faults c.walk.new.pages) c.in_err-near.field-0.0 told tree
-    (reason_from g.P.Pages.tells (g.P.Pages.shelf c.args.pages.now) (g.P.Pages.shelf c.args.pages.now).file (g.P.Pages.faults c.args.pages.now) (g.P.Pages.faults c.walk.new.pages) c.in-Some.at c.args.root c.in_err-near.field-0.0 c.in-Some.is
-    (c.in_err-near.ensures.reason c.in-Some.at (λ _. refl))))
+    (search_disk g.P.Pages.tells ok s c.args.with c.args.up c.args.root entries c.args.chunk s.file (g.P.Pages.faults c.args.pages.now) (g.P.Pages.faults c.walk.new.pages) c.in_err-near.field-0.0 told tree
+    (search_from g.P.Pages.tells s s.file (g.P.Pages.faults c.args.pages.now) (g.P.Pages.faults c.walk.new.pages) c.in-Some.at c.args.with c.args.up c.args.root c.args.chunk c.in_err-near.field-0.0 c.in-Some.is c.in_err-near.ensures.reason))
 
 pub returns-in_err-near-clause-reason : goal.returns-in_err-near-clause-reason
 returns-in_err-near-clause-reason g c =
     let p = err_from_is_err_and c.from_residual.result c.from_residual.ensures.1 in
+    let s = g.P.Pages.shelf c.args.pages.now in
     rw (p.1, p.2)
-    (reason_from g.P.Pages.tells (g.P.Pages.shelf c.args.pages.now) (g.P.Pages.shelf c.args.pages.now).file (g.P.Pages.faults c.args.pages.now) (g.P.Pages.faults c.walk.new.pages) c.in-Some.at c.args.root c.in_err-near.field-0.0 c.in-Some.is
-    (c.in_err-near.ensures.reason c.in-Some.at (λ _. refl)))
+    (search_from g.P.Pages.tells s s.file (g.P.Pages.faults c.args.pages.now) (g.P.Pages.faults c.walk.new.pages) c.in-Some.at c.args.with c.args.up c.args.root c.args.chunk c.in_err-near.field-0.0 c.in-Some.is c.in_err-near.ensures.reason)
+
+pub returns-in_err-near-clause-asked : goal.returns-in_err-near-clause-asked
+returns-in_err-near-clause-asked g c =
+    let p = err_from_is_err_and c.from_residual.result c.from_residual.ensures.1 in
+    rw (p.1, p.2) (names_from (g.P.Pages.shelf c.args.pages.now).file c.in-Some.at c.args.root c.in_err-near.field-0.0 c.in-Some.is c.in_err-near.ensures.asked)
 
 again : (g : Given.Over) (c : goal.After-from_residual-in_err-first g)
-    → Reason g.P.Pages.tells (g.P.Pages.shelf c.args.pages.now).file (BreaksFrom (g.P.Pages.shelf c.args.pages.now) c.args.root) (g.P.Pages.faults c.args.pages.now) (g.P.Pages.faults c.walk-2.new.pages) c.in_err-first.field-0.0
+    → Reason g.P.Pages.tells (g.P.Pages.shelf c.args.pages.now).file (BreaksSearch (g.P.Pages.shelf c.args.pages.now) c.args.with c.args.up c.args.root c.args.chunk) (g.P.Pages.faults c.args.pages.now) (g.P.Pages.faults c.walk-2.new.pages)
+    c.in_err-first.field-0.0
 again g c =
     let s = g.P.Pages.shelf c.args.pages.now in
-    let way = subst (λ (o : Option Place). IfSome o (λ (place : Place). IsWithin g.P.Pages.tells s (record { at = c.in-Some.at; depth = 0 }) place)) c.in-Some-second.is c.in_ok-near.ensures.within in
-    let second = c.in_err-first.ensures.reason c.in-Some.at (subst (λ (m : Shelf). IsTrue g.P.Pages.tells → Way m c.in-Some-second.place.depth c.in-Some.at c.in-Some-second.place.at) (sym c.in_ok-near.ensures.kept) (λ told. way.way told c.in-Some.at refl)) in
-    reason_from g.P.Pages.tells s s.file (g.P.Pages.faults c.args.pages.now) (g.P.Pages.faults c.walk-2.new.pages) c.in-Some.at c.args.root c.in_err-first.field-0.0 c.in-Some.is
-    (reason_then g.P.Pages.tells s (g.P.Pages.shelf c.walk.new.pages) (g.P.Pages.faults c.args.pages.now) (g.P.Pages.faults c.walk.new.pages) (g.P.Pages.faults c.walk-2.new.pages) c.in-Some.at c.in_err-first.field-0.0
-    c.in_ok-near.ensures.kept (c.in_ok-near.ensures.untroubled (ok_never _ _)) second)
+    let near = c.in_ok-near.near in
+    search_then g.P.Pages.tells s (g.P.Pages.shelf c.walk.new.pages) (g.P.Pages.faults c.args.pages.now) (g.P.Pages.faults c.walk.new.pages) (g.P.Pages.faults c.walk-2.new.pages) c.in-Some.at c.args.with c.args.up c.from_edge.result.up c.args.chunk
+    c.from_edge.result.chunk c.args.root near.second c.in-Some-second.place near.entry c.in_err-first.field-0.0 c.in-Some.is c.in-Some-second.is (sym c.is_some.ensures ∙ c.if-is_some.false)
+    c.in_ok-near.ensures.kept (c.in_ok-near.ensures.untroubled (ok_never _ _)) c.from_edge.ensures.up c.from_edge.ensures.chunk c.in_ok-near.ensures.beside c.in_err-first.ensures.reason
 
 pub returns-in_err-first-clause-reason : goal.returns-in_err-first-clause-reason
 returns-in_err-first-clause-reason g c =
     let p = err_from_is_err_and c.from_residual-in_err-first.result c.from_residual-in_err-first.ensures.1 in
     rw (p.1, p.2) (again g c)
 
+pub returns-in_err-first-clause-asked : goal.returns-in_err-first-clause-asked
+returns-in_err-first-clause-asked g c =
+    let p = err_from_is_err_and c.from_residual-in_err-first.result c.from_residual-in_err-first.ensures.1 in
+    rw (p.1, p.2)
+    (names_then (g.P.Pages.shelf c.args.pages.now) (g.P.Pages.shelf c.walk.new.pages) c.in-Some.at c.args.root c.in_ok-near.near.second c.in-Some-second.place c.in_err-first.field-0.0 c.in-Some.is c.in-Some-second.is c.in_ok-near.ensures.kept
+    c.in_ok-near.ensures.within c.in_err-first.ensures.asked)
+
 pub returns-in_err-first-clause-stands : goal.returns-in_err-first-clause-stands
 returns-in_err-first-clause-stands g c = λ told ok entries tree.
     let p = err_from_is_err_and c.from_residual-in_err-first.result c.from_residual-in_err-first.ensures.1 in
+    let s = g.P.Pages.shelf c.args.pages.now in
     rw (p.1, p.2)
-    (only_disk g.P.Pages.tells ok (g.P.Pages.shelf c.args.pages.now) c.args.root entries (g.P.Pages.shelf c.args.pages.now).file (g.P.Pages.faults c.args.pages.now) (g.P.Pages.faults c.walk-2.new.pages) c.in_err-first.field-0.0 told tree
-    (again g c))
+    (search_disk g.P.Pages.tells ok s c.args.with c.args.up c.args.root entries c.args.chunk s.file (g.P.Pages.faults c.args.pages.now) (g.P.Pages.faults c.walk-2.new.pages) c.in_err-first.field-0.0 told tree (again g c))
 
 pub returns-clause-read : goal.returns-clause-read
 returns-clause-read g c = λ told.
@@ -60,12 +70,12 @@ returns-clause-read g c = λ told.
 
 pub returns-then-is_some-clause-broken : goal.returns-then-is_some-clause-broken
 returns-then-is_some-clause-broken g c = λ told.
-    never_next (g.P.Pages.shelf c.args.pages.now) c.args.with c.args.up c.args.root c.in-Some.at c.args.chunk c.in_ok-near.near.entry (block_of c.in_ok-near.near.second) c.in-Some.is (c.in_ok-near.ensures.reached told)
+    never_barred (g.P.Pages.shelf c.args.pages.now) c.args.with c.args.up c.args.root c.in-Some.at c.args.chunk c.in_ok-near.near.entry (block_of c.in_ok-near.near.second) c.in-Some.is (c.in_ok-near.ensures.reached told)
 
 pub returns-in_default-second-clause-broken : goal.returns-in_default-second-clause-broken
 returns-in_default-second-clause-broken g c = λ told.
-    never_next (g.P.Pages.shelf c.args.pages.now) c.args.with c.args.up c.args.root c.in-Some.at c.args.chunk c.in_ok-near.near.entry (block_of c.in_ok-near.near.second) c.in-Some.is (c.in_ok-near.ensures.reached told)
+    never_barred (g.P.Pages.shelf c.args.pages.now) c.args.with c.args.up c.args.root c.in-Some.at c.args.chunk c.in_ok-near.near.entry (block_of c.in_ok-near.near.second) c.in-Some.is (c.in_ok-near.ensures.reached told)
 
 pub returns-clause-broken : goal.returns-clause-broken
 returns-clause-broken g c = λ told.
-    never_next (g.P.Pages.shelf c.args.pages.now) c.args.with c.args.up c.args.root c.in-Some.at c.args.chunk c.in_ok-near.near.entry (block_of c.in_ok-near.near.second) c.in-Some.is (c.in_ok-near.ensures.reached told)
+    never_barred (g.P.Pages.shelf c.args.pages.now) c.args.with c.args.up c.args.root c.in-Some.at c.args.chunk c.in_ok-near.near.entry (block_of c.in_ok-near.near.second) c.in-Some.is (c.in_ok-near.ensures.reached told)

@@ -1,7 +1,8 @@
 use Rattle.std.proofs.Common.{◌≡◌, inl, refl, ap, arith}
 use Rattle.std.proofs.lemmas.Result.{err_from_is_err_and}
 use Rattle.btree_cow.proofs.Growth.{later_on}
-use Rattle.btree_cow.proofs.Insertions.{root_fails, root_stands}
+use Rattle.btree_cow.proofs.Refused.{appends_name, root_fails, root_names, root_stands, taking_tree}
+use Rattle.btree_cow.specs.Refused.{BreaksTake, BreaksTaking}
 use Rattle.btree_cow.proofs.Removals.{short_present, stored_present}
 use Rattle.btree_cow.specs.Takes.{stored_count}
 use Rattle.btree_cow.proofs.BlockCounts.{one_stored, root_down}
@@ -12,13 +13,25 @@ pub returns-in_err-remove_from-clause-stands : goal.returns-in_err-remove_from-c
 returns-in_err-remove_from-clause-stands g c = λ told ok entries tree.
     let p = err_from_is_err_and c.from_residual.result c.from_residual.ensures.1 in
     rw (p.1, p.2)
-    (root_stands g.P.Pages.tells ok c.args.root c.in-Some.at (g.P.Pages.shelf c.args.pages.now) (g.P.Pages.shelf c.remove_from.new.pages) _ _ _ entries told c.in-Some.is tree c.in_err-remove_from.ensures.reason)
+    (root_stands g.P.Pages.tells (BreaksTaking (g.P.Pages.shelf c.args.pages.now) 9 c.args.chunk c.in-Some.at) ok c.args.root c.in-Some.at (g.P.Pages.shelf c.args.pages.now) (g.P.Pages.shelf c.remove_from.new.pages) _ _ _ entries
+    (taking_tree (g.P.Pages.shelf c.args.pages.now) c.args.chunk c.in-Some.at) told c.in-Some.is tree c.in_err-remove_from.ensures.reason)
 
 pub returns-in_err-remove_from-clause-reason : goal.returns-in_err-remove_from-clause-reason
 returns-in_err-remove_from-clause-reason g c =
     let p = err_from_is_err_and c.from_residual.result c.from_residual.ensures.1 in
     rw (p.1, p.2)
-    (root_fails g.P.Pages.tells c.args.root c.in-Some.at (g.P.Pages.shelf c.args.pages.now) (g.P.Pages.shelf c.remove_from.new.pages) _ _ _ c.in-Some.is c.in_err-remove_from.ensures.reason)
+    (root_fails g.P.Pages.tells (BreaksTaking (g.P.Pages.shelf c.args.pages.now) 9 c.args.chunk c.in-Some.at) (BreaksTake (g.P.Pages.shelf c.args.pages.now) c.args.root c.args.chunk) c.in-Some.at (g.P.Pages.shelf c.args.pages.now)
+    (g.P.Pages.shelf c.remove_from.new.pages) _ _ _ (λ block b. (c.in-Some.at, c.in-Some.is, b)) c.in_err-remove_from.ensures.reason)
+
+pub returns-in_err-remove_from-clause-asked : goal.returns-in_err-remove_from-clause-asked
+returns-in_err-remove_from-clause-asked g c =
+    let p = err_from_is_err_and c.from_residual.result c.from_residual.ensures.1 in
+    rw (p.1, p.2)
+    (root_names g.P.Pages.tells (BreaksTaking (g.P.Pages.shelf c.args.pages.now) 9 c.args.chunk c.in-Some.at) c.args.root c.in-Some.at (g.P.Pages.shelf c.args.pages.now) (g.P.Pages.shelf c.remove_from.new.pages) _ _ _ c.in-Some.is
+    c.in_err-remove_from.ensures.reason)
+
+pub returns-in-Short-clause-asked : goal.returns-in-Short-clause-asked
+returns-in-Short-clause-asked g c = appends_name c.root_of.result (g.P.Pages.shelf c.root_of.new.pages) _ _ (g.P.Pages.shelf c.args.pages.now).file c.args.root c.root_of.ensures.reason
 
 pub returns-in-Stored-clause-absent : goal.returns-in-Stored-clause-absent
 returns-in-Stored-clause-absent g c = λ told ok entries tree absent.
