@@ -9,6 +9,7 @@ use Rattle.block_host.specs.Sealed.{IsSealed}
 use Rattle.block_host.specs.declared.block.Block.{Block}
 use Rattle.doc_stream.specs.OpenBlock.{OpenBlock}
 use Rattle.doc_stream.specs.Reading.{RecordAt}
+use Rattle.doc_stream.specs.Scanned.{IsScanned}
 use Rattle.forest_model.specs.Blocks.{File}
 use Rattle.forest_model.specs.Documents.{Map, doc_at}
 use Rattle.forest_model.specs.Run.{FileAfter, AddsCommit, Grows, link_to}
@@ -26,11 +27,14 @@ use Rattle.forest_model.specs.declared.stored.Entry.{Entry}
 use Rattle.forest_model.specs.declared.stored.Rec.{Rec}
 use Rattle.model_laws.specs.Laws.{RulesStay, NothingNewMeans}
 use Rattle.file_parts.specs.Held.{Held}
+use Rattle.file_core.specs.Recorded.{IsRecorded}
+use Rattle.header_block.specs.Layout.{header_bytes}
 use Rattle.file_core.specs.Stands.{Stands, AreDocuments, HasDocument, IsKept, SameAtSameNumber}
 use Rattle.file_documents.specs.Setting.{put_of}
 use Rattle.file_parts.specs.Moment.{Moment}
 use Rattle.file_core.specs.Updates.{StandsAt, IsFile, bytes_of}
-use Rattle.file_commit.specs.Committing.{listed, IsOpenBlock, CommitsFile, header_after}
+use Rattle.file_commit.specs.Committing.{listed, IsOpenBlock, CommitsFile, header_after, held_after}
+use Rattle.file_commit.proofs.Recorded.{PadScans, PassScans, commit_scanned, none_behind}
 use Rattle.file_commit.proofs.Grown.{length-bytes_of, bytes-append, open_records, open_whole, open_count, Grown, grown_is, adds}
 
 -- ---- what the crate of records promises
@@ -92,7 +96,7 @@ none_left true n m e which = absurd (cc)
 
 -- ---- a commit that is done
 
-module _ (rules : RulesStay) (means : NothingNewMeans) (pads : PadsKeep) (blocks : BlocksKeep) (told : Bool) (at : StoreRef) (old new : Moment) (s : State) (f : File) (stands : StandsAt told old s) (was : IsFile told old.held old.file f) (news : nothing_new s ≡ false) (stepped : step_of s f (calls.Commit at) ≡ (replies.Committed s.next_commit, committed s)) (commits : CommitsFile told old new) where
+module _ (rules : RulesStay) (means : NothingNewMeans) (pads : PadsKeep) (blocks : BlocksKeep) (pad_scans : PadScans) (pass_scans : PassScans) (told : Bool) (at : StoreRef) (old new : Moment) (s : State) (f : File) (stands : StandsAt told old s) (was : IsFile told old.held old.file f) (news : nothing_new s ≡ false) (stepped : step_of s f (calls.Commit at) ≡ (replies.Committed s.next_commit, committed s)) (commits : CommitsFile told old new) where
   abbrev records : List Block
   records = listed commits.block
 
@@ -129,6 +133,24 @@ module _ (rules : RulesStay) (means : NothingNewMeans) (pads : PadsKeep) (blocks
   documents_are k =
       document_stays told old.held.revision old.file new.file old.held.tail (record { number = end_at + 1; bytes = [] }) keeps k (finite.get old.held.wal.entries k) (finite.get s.documents k) (stands.documents k)
 
+  size_now : IsTrue told → length new.file ≡ end_at + 1
+  size_now t = omega (arith, ap length (grown t), length-append (old.file ++ records) (commits.header ∷ []), length-append old.file records, is_end t)
+
+  -- those from `wal_from` on are as before, and none is behind the new header
+  recorded_now : IsTrue told → IsRecorded (held_after old.held end_at) new.file (committed s)
+  recorded_now t =
+      let was = stands.recorded t in
+      record {
+        records = was.records;
+        scanned =
+            subst (λ (bs : List Block). IsScanned old.held.revision bs (record { number = end_at + 1; bytes = [] }) old.held.header.wal_from was.records) (sym (grown t))
+            (commit_scanned pad_scans pass_scans old.held.revision old.file old.held.tail old.held.header.wal_from was.records commits.block commits.header (header_bytes (header_after old.held)) commits.open_block commits.sealed was.scanned);
+        made = was.made;
+        recent = [];
+        behind = none_behind old.held.revision new.file (record { number = end_at + 1; bytes = [] }) (end_at + 1) refl (sym (size_now t)) (sym (size_now t));
+        folded = refl;
+      }
+
   pub commit_stands : StandsAt told new (committed s)
   commit_stands = subst (λ (h : Held). Stands told h new.disk new.file (committed s)) (sym commits.held) (record {
     running = stands.running;
@@ -156,10 +178,11 @@ module _ (rules : RulesStay) (means : NothingNewMeans) (pads : PadsKeep) (blocks
     loose = refl;
     open_block = refl;
     at_end = refl;
-    size = λ t. omega (arith, ap length (grown t), length-append (old.file ++ records) (commits.header ∷ []), length-append old.file records, is_end t);
+    size = size_now;
     room = inl ((means (committed s)).1 (refl, refl));
     low = omega (arith, few, room, stands.at_end, stands.most);
     within = omega (arith, stands.within, stands.at_end, put, few);
+    recorded = recorded_now;
   })
 
   -- ---- the blocks of the file

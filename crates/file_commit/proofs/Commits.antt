@@ -23,6 +23,7 @@ use Rattle.file_core.specs.Updates.{StandsAt, IsFile, CommitsAs}
 use Rattle.file_commit.specs.Committing.{is_commit_worn, is_far, Stays, CommitGives, CommitAnswers}
 use Rattle.file_commit.proofs.Headers.{header-below}
 use Rattle.file_commit.proofs.NothingNew.{nothing_is}
+use Rattle.file_commit.proofs.Recorded.{PadScans, PassScans}
 use Rattle.file_commit.proofs.CommitStands.{PadsKeep, BlocksKeep, file_after, commit_stands, commit_grows, commit_file}
 
 -- ---- the step of a commit, by its tests
@@ -80,6 +81,7 @@ module _ (told : Bool) (at : StoreRef) (old new : Moment) (s : State) (f : File)
         room = stands.room;
         low = stands.low;
         within = stands.within;
+        recorded = stands.recorded;
       }))
 
   kept_file : Stays old new → IsFile told new.held new.file f
@@ -116,16 +118,16 @@ module _ (told : Bool) (at : StoreRef) (old new : Moment) (s : State) (f : File)
 
   -- ---- where something is
 
-  module _ (rules : RulesStay) (means : NothingNewMeans) (pads : PadsKeep) (blocks : BlocksKeep) where
+  module _ (rules : RulesStay) (means : NothingNewMeans) (pads : PadsKeep) (blocks : BlocksKeep) (pad_scans : PadScans) (pass_scans : PassScans) where
     gives : (result : Result ℕ Refusal) → nothing_new s ≡ false → step_of s f (calls.Commit at) ≡ (Committed s.next_commit, committed s) → CommitGives told old new result → CommitsAs told s f at old new result
     gives (Ok number) news step given = record {
       done = (
         ap (λ (o : Outcome). o.0) step ∙ ap Committed (sym stands.next_commit) ∙ ap Committed (sym given.0),
-        subst (λ (o : Outcome). StandsAt told new o.1) (sym step) (commit_stands rules means pads blocks told at old new s f stands was news step given.1),
+        subst (λ (o : Outcome). StandsAt told new o.1) (sym step) (commit_stands rules means pads blocks pad_scans pass_scans told at old new s f stands was news step given.1),
         (
-          file_after rules means pads blocks told at old new s f stands was news step given.1,
-          subst (λ (o : Outcome). FileAfter s f (Some (calls.Commit at)) o.1 (file_after rules means pads blocks told at old new s f stands was news step given.1)) (sym step) (commit_grows rules means pads blocks told at old new s f stands was news step given.1),
-          commit_file rules means pads blocks told at old new s f stands was news step given.1,
+          file_after rules means pads blocks pad_scans pass_scans told at old new s f stands was news step given.1,
+          subst (λ (o : Outcome). FileAfter s f (Some (calls.Commit at)) o.1 (file_after rules means pads blocks pad_scans pass_scans told at old new s f stands was news step given.1)) (sym step) (commit_grows rules means pads blocks pad_scans pass_scans told at old new s f stands was news step given.1),
+          commit_file rules means pads blocks pad_scans pass_scans told at old new s f stands was news step given.1,
         ),
       );
       refused = λ other h. absurd (no_refusal _ other (sym (ap (λ (o : Outcome). o.0) step) ∙ h));

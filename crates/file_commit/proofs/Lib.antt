@@ -4,6 +4,7 @@ pub mod SameRows
 pub mod Padded
 pub mod NothingNew
 pub mod Grown
+pub mod Recorded
 pub mod CommitStands
 pub mod Commits
 pub mod Fronts

@@ -14,6 +14,7 @@ use Rattle.forest_model.specs.declared.call.StoreRef.{StoreRef}
 use Rattle.forest_model.specs.declared.refusal.Refusal.{Refusal}
 use Rattle.forest_model.specs.declared.refusal.Refusal.TheVariants.{ReadOnly, Worn, DiskFault}
 use Rattle.forest_model.specs.declared.stored.Header.{Header}
+use Rattle.header_block.specs.Layout.{header_bytes}
 use Rattle.file_parts.specs.Held.{Held}
 use Rattle.file_parts.specs.Moment.{Moment}
 
@@ -79,6 +80,7 @@ pub record CommitsFile (told : Bool) (old new : Moment) : Type 0 where
   pub header : Block
   pub open_block : IsOpenBlock old.held.revision old.held.tail block
   pub tells : TellsHeader (header_after old.held) header.bytes
+  pub sealed : IsSealed old.held.revision (old.held.tail.number + length (listed block)) 4 (header_bytes (header_after old.held)) header
   pub held : new.held ≡ held_after old.held (old.held.tail.number + length (listed block))
   pub files : IsTrue told → new.disk.files old.held.revision ≡ old.disk.files old.held.revision ++ listed block ++ header ∷ []
   pub shown : IsTrue told → new.file ≡ new.disk.files old.held.revision

@@ -10,7 +10,7 @@ use crate::disk::put_commit;
 use crate::header::{next_header, sealed_header};
 use crate::rows::are_same_rows;
 use block_host::{Failed, Host};
-use doc_stream::{blocks_keep_records, pads_keep_records};
+use doc_stream::{blocks_keep_records, pad_is_scanned, pads_keep_records, pass_is_scanned};
 use file_core::{FileState, Parts};
 use forest_model::{Header, Refusal, StoreRef, Stores};
 use model_laws::{nothing_new, rules};
@@ -35,6 +35,8 @@ pub fn commit<H: Host>(file: &mut FileState<H>, at: &StoreRef) -> Result<u64, Re
     nothing_new();
     pads_keep_records();
     blocks_keep_records();
+    pad_is_scanned();
+    pass_is_scanned();
     if let Some(faults) = file.parts.stopped {
         return Err(Refusal::Stopped { faults });
     }

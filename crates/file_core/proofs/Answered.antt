@@ -20,6 +20,7 @@ use Rattle.file_parts.specs.Moment.{Moment}
 use Rattle.file_parts.specs.Records.{NotPut}
 use Rattle.file_core.specs.Stands.{Stands, AreDocuments, DrawNumbers}
 use Rattle.file_core.specs.Updates.{StandsAt, IsFile, UpdatesAs, bytes_of}
+use Rattle.file_core.proofs.RecordedPuts.{recorded_kept}
 
 -- ---- what a cause that doesn't hold gives
 
@@ -64,6 +65,7 @@ kept_stands told old new s stands same = subst (λ (h : Held). Stands told h new
   low = stands.low;
   most = stands.most;
   within = stands.within;
+  recorded = λ t. recorded_kept old.held old.file new.file s new.held.wal same.file (stands.recorded t);
 })
 
 pub kept_file : (told : Bool) (old new : Moment) (f : File) → IsFile told old.held old.file f → OnlyMemory old new → IsFile told new.held new.file f

@@ -47,7 +47,7 @@ pub with_seq_twice : (stores : List Store) (id a b : ℕ) → with_seq (with_seq
 with_seq_twice [] id a b = refl
 with_seq_twice (s ∷ stores) id a b = λ i. at_seq_twice id a b s i ∷ with_seq_twice stores id a b i
 
-found_at_seq : (stores : List Store) (id n : ℕ) (st : Store) → store_of stores id ≡ Some st → store_of (with_seq stores id n) id ≡ Some (record st { seq = n })
+pub found_at_seq : (stores : List Store) (id n : ℕ) (st : Store) → store_of stores id ≡ Some st → store_of (with_seq stores id n) id ≡ Some (record st { seq = n })
 found_at_seq stores id n st found = store_of-with_seq stores id n id ∙ ap (option_map (at_seq id n)) found ∙ ap Some (at_seq_own id n st (found_id stores id st found))
 
 -- a store that rises keeps the numbers drawn
@@ -80,7 +80,7 @@ some_there None e = absurd (false≢true e)
 some_there (Some d) e = (d, refl)
 
 -- what a deletion that is there goes on with
-when_there : (b : Bool) (o : Option (ℕ × Map)) (last : ℕ × Map) → (if b then o else None) ≡ Some last → (b ≡ true) × (o ≡ Some last)
+pub when_there : (b : Bool) (o : Option (ℕ × Map)) (last : ℕ × Map) → (if b then o else None) ≡ Some last → (b ≡ true) × (o ≡ Some last)
 when_there true o last is = (refl, is)
 when_there false o last is = absurd (none-some last is)
 

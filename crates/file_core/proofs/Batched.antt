@@ -38,7 +38,10 @@ use Rattle.file_core.proofs.BatchTurns.{AtTurn, numbers_raised, each_turn}
 use Rattle.file_core.proofs.SetCauses.{none_holds, unmet, gone_is, seq_is, documents_is}
 use Rattle.file_core.proofs.SetEntries.{has_more, unchanged_by}
 use Rattle.file_core.proofs.Puts.{PutsKeep, PutStands, open_short, is_end}
+use Rattle.file_core.proofs.RecordedBatch.{batch_more}
+use Rattle.file_core.proofs.RecordedMore.{PutScans, More, told_of}
 use Rattle.file_core.proofs.SetStands.{no_refusal}
+use Rattle.file_core.proofs.StoreTables.{id_below}
 use Rattle.file_core.proofs.Written.{Update, after_update, written_stands, written_grows, written_file}
 
 -- each item draws a number
@@ -145,19 +148,26 @@ module _ (keep : PutsKeep) (lands : PutStands) (joins : PutsJoin) (nones : PutsN
       subst (λ (es : Entries). DrawNumbers es (with_seq s.stores at.store last.0)) (sym batches.entries)
       (subst (λ (q : ℕ). DrawNumbers end.entries (with_seq s.stores at.store q)) ends.1 ends.0.numbers)
 
-  more : st.seq < last.0
-  more = omega (arith, last_number at.store items (seq_of s.stores at.store) s.documents last goes, seq_next, some)
+  further : st.seq < last.0
+  further = omega (arith, last_number at.store items (seq_of s.stores at.store) s.documents last goes, seq_next, some)
 
-  pub batch_stands : RulesStay → StandsAt told new (after_update s at last.0 last.1 n)
-  batch_stands rules =
+  more : PutScans → IsTrue told → More old.held.revision old.held.tail new.held.tail old.file new.file (told_of s) (told_of (after_update s at last.0 last.1 n))
+  more scans t =
+      subst (λ (x : OpenBlock). More old.held.revision old.held.tail x old.file new.file (told_of s) (told_of (after_update s at last.0 last.1 n))) tail_is
+      (subst (λ (bs : List Block). More old.held.revision old.held.tail end.tail old.file bs (told_of s) (told_of (after_update s at last.0 last.1 n))) (shows t)
+      (batch_more scans old.held.revision at.store s.next_store (id_below s.next_store at.store s.stores st stands.is_state.ids_drawn found) items start end old.file (old.file ++ batches.out) s.stores st s.documents last some found
+      (sym (next ∙ seq_next)) (ap (λ (q : ℕ). after_items at.store items q s.documents) next ∙ goes) (each_behind old.held.revision at.store items start end old.file batches.out batches.each)))
+
+  pub batch_stands : RulesStay → PutScans → StandsAt told new (after_update s at last.0 last.1 n)
+  batch_stands rules scans =
       written_stands update rules documents_are numbers_are ends.0.counted ends.0.counts ends.0.live (omega (arith, ends.0.live, ends.0.most))
-      (unchanged_by s at.store last.0 st last.1 ends.0.others stands.unchanged found more)
+      (unchanged_by s at.store last.0 st last.1 ends.0.others stands.unchanged found further) (more scans)
 
 -- ---- what a batch answers
 
-pub batch_updates : RulesStay → RecordsKeepHeader → PutsKeep → PutStands → PutsJoin → PutsNone → (told : Bool) (at : StoreRef) (items : List Item) → 1 ≤ length items → (old new : Moment) (result : Result ℕ Refusal)
+pub batch_updates : RulesStay → RecordsKeepHeader → PutsKeep → PutStands → PutsJoin → PutsNone → PutScans → (told : Bool) (at : StoreRef) (items : List Item) → 1 ≤ length items → (old new : Moment) (result : Result ℕ Refusal)
     → BatchAnswers told at items old new result → (s : State) (f : File) → StandsAt told old s → IsFile told old.held old.file f → UpdatesAs told replies.Seq s f (calls.Batch at items) old new result
-batch_updates rules headers keep lands joins nones told at items some old new result answers s f stands was = answered_as told replies.Seq (calls.Batch at items) old new s f stands was no_refusal _ result (batch_refused told old.held old.disk old.file s f at items stands was.long) (given result) answers where
+batch_updates rules headers keep lands joins nones scans told at items some old new result answers s f stands was = answered_as told replies.Seq (calls.Batch at items) old new s f stands was no_refusal _ result (batch_refused told old.held old.disk old.file s f at items stands was.long) (given result) answers where
   -- what the step leaves where nothing is against it
   goes_on : first_cause (batch_causes old.held at items) ≡ None → (last : ℕ × Map) × (after_items at.store items (seq_of s.stores at.store) s.documents ≡ Some last)
   goes_on free =
@@ -183,7 +193,7 @@ batch_updates rules headers keep lands joins nones told at items some old new re
       let whole = update keep lands joins nones told at items some old new s f stands was.long there.0 there.1 last goes room step gives.1 in
       done_as told replies.Seq (calls.Batch at items) old new s f stands was no_refusal seq (after_update s at last.0 last.1 (sum_by item_length items)) (f ++ bytes_of whole.writes.out)
       (step ∙ ap (λ (n : ℕ). (replies.Seq n, after_update s at last.0 last.1 (sum_by item_length items))) number)
-      (batch_stands keep lands joins nones told at items some old new s f stands was.long there.0 there.1 last goes room step gives.1 rules)
+      (batch_stands keep lands joins nones told at items some old new s f stands was.long there.0 there.1 last goes room step gives.1 rules scans)
       (written_grows whole (λ adds. adds))
       (written_file whole headers was)
   given (Err why) free gives = failed_as told replies.Seq (calls.Batch at items) old new s f stands was no_refusal _ why (ap (λ (o : Outcome). o.0) (step_is free)) gives

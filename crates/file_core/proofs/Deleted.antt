@@ -1,5 +1,5 @@
 -- The file stands for the state after a key is deleted.
-use Rattle.std.proofs.Common.{◌≡◌, ℕ, ◌+◌, ◌-◌, ◌/◌, ◌≤◌, Bool, false, not, List, [], ◌∷◌, ◌++◌, length, Option, Some, None, Ok, Err, sym, ap, subst, ◌∙◌, arith, inl, inr}
+use Rattle.std.proofs.Common.{◌≡◌, ℕ, ◌+◌, ◌-◌, ◌/◌, ◌≤◌, Bool, false, not, List, [], ◌∷◌, ◌++◌, length, Option, Some, None, Ok, Err, refl, sym, ap, subst, ◌∙◌, arith, inl, inr}
 use Rattle.std.specs.Prelude.{IsTrue, is_none, is_some, nat_lt, Result}
 use Rattle.std.specs.Option.{option_map_or}
 use Rattle.std.specs.FinMap as finite
@@ -41,7 +41,10 @@ use Rattle.file_core.proofs.Removed.{removed_own, removed_other, live-remove, co
 use Rattle.file_parts.proofs.Puts.{length-record}
 use Rattle.file_core.proofs.SetCauses.{refused_first, answered_last, none_holds, unmet, gone_is, seq_is, documents_is, needed_is}
 use Rattle.file_core.proofs.SetEntries.{has_more, older_len, older_lives, numbers_set, unchanged_by}
-use Rattle.file_core.proofs.Puts.{PutsKeep, keeps}
+use Rattle.file_core.proofs.Puts.{PutsKeep, put_behind, keeps}
+use Rattle.file_core.proofs.RecordedMore.{PutScans, More, told_of, drawn_more}
+use Rattle.file_core.proofs.RecordedPuts.{grown_more}
+use Rattle.file_core.proofs.StoreTables.{id_below}
 use Rattle.file_core.proofs.SetStands.{no_refusal}
 use Rattle.file_core.proofs.Written.{Update, puts, written_stands, written_grows, written_file}
 
@@ -127,16 +130,22 @@ module _ (keep : PutsKeep) (told : Bool) (at : StoreRef) (key : List ℕ) (old n
       let gone = older_len told old.held.revision old.file old.held.tail k older (finite.get s.documents k) (stands.documents k) in
       omega (arith, gone, live-remove s.documents k, stands.live)
 
-  pub delete_stands : RulesStay → StandsAt told new (answer s (calls.Delete at key)).1
-  delete_stands rules =
+  more : PutScans → IsTrue told → More old.held.revision old.held.tail new.held.tail old.file new.file (told_of s) (told_of (answer s (calls.Delete at key)).1)
+  more scans =
+      grown_more (puts update) (told_of s) (told_of (answer s (calls.Delete at key)).1)
+      (drawn_more scans (deletion_of k (next_seq s at)) deletes.is_record (put_behind (puts update)) s.next_store s.stores s.documents left st refl found (omega (arith, seq_next))
+      (id_below s.next_store at.store s.stores st stands.is_state.ids_drawn found) (λ t same. ap (λ (x : Map). finite.remove x k) same) refl)
+
+  pub delete_stands : RulesStay → PutScans → StandsAt told new (answer s (calls.Delete at key)).1
+  delete_stands rules scans =
       written_stands update rules documents_are numbers_are counted_now (λ j other. count-remove_other s.documents k j other) live_now (omega arith)
-      (unchanged_by s at.store (next_seq s at) st left (λ q other. removed_other s.documents k q (λ own. other (ap (λ (x : DocKey). x.store) own))) stands.unchanged found (omega (arith, seq_next)))
+      (unchanged_by s at.store (next_seq s at) st left (λ q other. removed_other s.documents k q (λ own. other (ap (λ (x : DocKey). x.store) own))) stands.unchanged found (omega (arith, seq_next))) (more scans)
 
 -- ---- what a deletion answers
 
-pub delete_updates : RulesStay → RecordsKeepHeader → PutsKeep → (told : Bool) (at : StoreRef) (key : List ℕ) (old new : Moment) (result : Result ℕ Refusal)
+pub delete_updates : RulesStay → RecordsKeepHeader → PutsKeep → PutScans → (told : Bool) (at : StoreRef) (key : List ℕ) (old new : Moment) (result : Result ℕ Refusal)
     → DeleteAnswers told at key old new result → (s : State) (f : File) → StandsAt told old s → IsFile told old.held old.file f → UpdatesAs told replies.Seq s f (calls.Delete at key) old new result
-delete_updates rules headers keep told at key old new result answers s f stands was = answered_as told replies.Seq (calls.Delete at key) old new s f stands was no_refusal _ result (delete_refused told old.held old.disk old.file s f at key stands was.long) (given result) answers where
+delete_updates rules headers keep scans told at key old new result answers s f stands was = answered_as told replies.Seq (calls.Delete at key) old new s f stands was no_refusal _ result (delete_refused told old.held old.disk old.file s f at key stands was.long) (given result) answers where
   given : (r : Result ℕ Refusal) → first_cause (delete_causes old.held at key) ≡ None → DeleteGives told at key old new r → UpdatesAs told replies.Seq s f (calls.Delete at key) old new r
   given (Ok seq) free gives =
       let step = delete_answered told old.held old.disk old.file s f at key stands was.long free in
@@ -151,7 +160,7 @@ delete_updates rules headers keep told at key old new result answers s f stands 
       let whole = update keep told at key old new s f stands was.long there.0 there.1 document.0 document.1 room step deletes in
       done_as told replies.Seq (calls.Delete at key) old new s f stands was no_refusal seq (answer s (calls.Delete at key)).1 (f ++ bytes_of whole.writes.out)
       (step ∙ ap (λ (n : ℕ). (replies.Seq n, (answer s (calls.Delete at key)).1)) (ap (λ n. n + 1) (sym next) ∙ sym gives.0))
-      (delete_stands keep told at key old new s f stands was.long there.0 there.1 document.0 document.1 room step deletes rules)
+      (delete_stands keep told at key old new s f stands was.long there.0 there.1 document.0 document.1 room step deletes rules scans)
       (written_grows whole (λ adds. adds))
       (written_file whole headers was)
   given (Err why) free gives =

@@ -5,6 +5,9 @@ pub mod SetEntries
 pub mod SetBlocks
 pub mod Puts
 pub mod Answered
+pub mod RecordedMake
+pub mod RecordedMore
+pub mod RecordedPuts
 pub mod SetStands
 pub mod Removed
 pub mod Written
@@ -12,6 +15,7 @@ pub mod Deleted
 pub mod BatchCauses
 pub mod BatchBytes
 pub mod BatchTurns
+pub mod RecordedBatch
 pub mod Batched
 pub mod Numbered
 pub mod Standing

@@ -75,13 +75,13 @@ module _ {told : Bool} {bytes : List ℕ} {n : ℕ} {old new : Moment} {s : Stat
   pub bytes_are : new.held.tail.number * 4064 + length new.held.tail.bytes ≡ old.held.blocks * 4064 + length old.held.tail.bytes + n
   bytes_are = omega (arith, lengths.number, lengths.count, lengths.loose, puts.stands.at_end)
 
-  grown : IsTrue told → new.file ≡ old.file ++ puts.out
+  pub grown : IsTrue told → new.file ≡ old.file ++ puts.out
   grown t = puts.shown t (puts.stands.shown t) ∙ puts.files t ∙ ap (λ bs. bs ++ puts.out) (sym (puts.stands.shown t))
 
   pub size_is : IsTrue told → length new.file ≡ new.held.tail.number
   size_is t = omega (arith, ap length (grown t), length-append old.file puts.out, lengths.number, is_end puts.stands t)
 
-  put_behind : PutsBytes old.held.revision bytes old.held.tail new.held.tail old.file (old.file ++ puts.out)
+  pub put_behind : PutsBytes old.held.revision bytes old.held.tail new.held.tail old.file (old.file ++ puts.out)
   put_behind = behind old.held.revision bytes old.held.tail new.held.tail old.file puts.out puts.put
 
   records_are : IsTrue (list_all is_records (bytes_of puts.out))

@@ -1,6 +1,6 @@
 -- The file stands for the state after a set.
-use Rattle.std.proofs.Common.{◌≡◌, ◌≢◌, ℕ, ◌+◌, ◌-◌, ◌^◌, ◌≤◌, ◌<◌, Bool, false, List, ◌++◌, length, Option, Some, None, Ok, Err, sym, ap, subst, ◌∙◌, arith}
-use Rattle.std.specs.Prelude.{min, is_none, is_some, Result, if◌then◌else◌}
+use Rattle.std.proofs.Common.{◌≡◌, ◌≢◌, ℕ, ◌+◌, ◌-◌, ◌^◌, ◌≤◌, ◌<◌, Bool, false, List, ◌++◌, length, Option, Some, None, Ok, Err, refl, sym, ap, subst, ◌∙◌, arith}
+use Rattle.std.specs.Prelude.{min, IsTrue, is_none, is_some, Result, if◌then◌else◌}
 use Rattle.std.specs.Option.{option_map_or}
 use Rattle.std.specs.FinMap as finite
 use Rattle.forest_model.specs.Records.{record_bytes}
@@ -28,7 +28,10 @@ use Rattle.file_core.proofs.Inserted.{live-part, live-insert, count-insert, coun
 use Rattle.file_core.proofs.Answered.{there_is, has_room, answered_as, failed_as, done_as}
 use Rattle.file_core.proofs.SetCauses.{none_holds, unmet, gone_is, seq_is, documents_is, step_refused, step_answered}
 use Rattle.file_core.proofs.SetEntries.{documents_set, older_len, older_lives, numbers_set, unchanged_set}
-use Rattle.file_core.proofs.Puts.{PutsKeep, PutStands, open_short, new_short, room_left, bytes_are, keeps, lies}
+use Rattle.file_core.proofs.Puts.{PutsKeep, PutStands, open_short, new_short, room_left, bytes_are, put_behind, keeps, lies}
+use Rattle.file_core.proofs.RecordedMore.{PutScans, More, told_of, drawn_more}
+use Rattle.file_core.proofs.RecordedPuts.{grown_more}
+use Rattle.file_core.proofs.StoreTables.{id_below}
 use Rattle.file_core.proofs.Written.{Update, puts, written_stands, written_grows, written_file}
 use Rattle.file_parts.proofs.Puts.{length-record}
 
@@ -94,19 +97,25 @@ module _ (keep : PutsKeep) (lands : PutStands) (told : Bool) (at : StoreRef) (ke
       let gone = older_len told old.held.revision old.file old.held.tail k older (finite.get s.documents k) (stands.documents k) in
       omega (arith, gone, bytes_are (puts update), room_left (puts update) room, stands.most, new_short (puts update), live-part s.documents k, live-insert s.documents k d, stands.live, small)
 
-  pub set_stands : RulesStay → StandsAt told new (answer s (calls.Set at key meta body)).1
-  set_stands rules =
+  more : PutScans → IsTrue told → More old.held.revision old.held.tail new.held.tail old.file new.file (told_of s) (told_of (answer s (calls.Set at key meta body)).1)
+  more scans =
+      grown_more (puts update) (told_of s) (told_of (answer s (calls.Set at key meta body)).1)
+      (drawn_more scans (put_of k d) sets.sets.is_record (put_behind (puts update)) s.next_store s.stores s.documents m st refl found (omega (arith, seq_next))
+      (id_below s.next_store at.store s.stores st stands.is_state.ids_drawn found) (λ t same. ap (λ (x : Map). finite.insert x k d) same) refl)
+
+  pub set_stands : RulesStay → PutScans → StandsAt told new (answer s (calls.Set at key meta body)).1
+  set_stands rules scans =
       written_stands update rules documents_are numbers_are counted_now (λ j other. count-other s.documents k d j other) live_now (omega arith)
-      (unchanged_set s at.store (next_seq s at) key st d stands.unchanged found (omega (arith, seq_next)))
+      (unchanged_set s at.store (next_seq s at) key st d stands.unchanged found (omega (arith, seq_next))) (more scans)
 
 -- ---- what a set answers
 
 pub no_refusal : (seq : ℕ) (why : Refusal) → replies.Seq seq ≢ replies.Refused why
 no_refusal seq why e = cc
 
-pub set_updates : RulesStay → RecordsKeepHeader → PutsKeep → PutStands → (told : Bool) (at : StoreRef) (key meta body : List ℕ) (old new : Moment) (result : Result ℕ Refusal)
+pub set_updates : RulesStay → RecordsKeepHeader → PutsKeep → PutStands → PutScans → (told : Bool) (at : StoreRef) (key meta body : List ℕ) (old new : Moment) (result : Result ℕ Refusal)
     → SetAnswers told at key meta body old new result → (s : State) (f : File) → StandsAt told old s → IsFile told old.held old.file f → UpdatesAs told replies.Seq s f (calls.Set at key meta body) old new result
-set_updates rules headers keep lands told at key meta body old new result answers s f stands was = answered_as told replies.Seq (calls.Set at key meta body) old new s f stands was no_refusal _ result (step_refused told old.held old.disk old.file s f at key meta body stands was.long) (given result) answers where
+set_updates rules headers keep lands scans told at key meta body old new result answers s f stands was = answered_as told replies.Seq (calls.Set at key meta body) old new s f stands was no_refusal _ result (step_refused told old.held old.disk old.file s f at key meta body stands was.long) (given result) answers where
   given : (r : Result ℕ Refusal) → first_cause (set_causes old.held at key meta body) ≡ None → SetGives told at key meta body old new r → UpdatesAs told replies.Seq s f (calls.Set at key meta body) old new r
   given (Ok seq) free gives =
       let step = step_answered told old.held old.disk old.file s f at key meta body stands was.long free in
@@ -120,7 +129,7 @@ set_updates rules headers keep lands told at key meta body old new result answer
       let whole = update keep lands told at key meta body old new s f stands was.long there.0 there.1 room step sets in
       done_as told replies.Seq (calls.Set at key meta body) old new s f stands was no_refusal seq (answer s (calls.Set at key meta body)).1 (f ++ bytes_of whole.writes.out)
       (step ∙ ap (λ (n : ℕ). (replies.Seq n, (answer s (calls.Set at key meta body)).1)) (ap (λ n. n + 1) (sym next) ∙ sym gives.0))
-      (set_stands keep lands told at key meta body old new s f stands was.long there.0 there.1 room step sets rules)
+      (set_stands keep lands told at key meta body old new s f stands was.long there.0 there.1 room step sets rules scans)
       (written_grows whole (λ adds. adds))
       (written_file whole headers was)
   given (Err why) free gives =

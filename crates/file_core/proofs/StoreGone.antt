@@ -1,6 +1,6 @@
 -- The file stands for the state after the removal of a store.
-use Rattle.std.proofs.Common.{◌≡◌, ◌≢◌, ℕ, ◌+◌, ◌-◌, ◌/◌, ◌^◌, ◌≤◌, Bool, true, false, List, [], ◌∷◌, ◌++◌, length, map, Option, Some, None, Ok, Err, refl, sym, ap, subst, ◌∙◌, arith, inr}
-use Rattle.std.specs.Prelude.{is_none, min, not, ◌||◌, codes, nat_eq, nat_lt, Result}
+use Rattle.std.proofs.Common.{◌≡◌, ◌≢◌, ℕ, ◌+◌, ◌-◌, ◌/◌, ◌^◌, ◌≤◌, ◌<◌, Bool, true, false, List, [], ◌∷◌, ◌++◌, length, map, Option, Some, None, Ok, Err, refl, sym, ap, subst, ◌∙◌, arith, inr}
+use Rattle.std.specs.Prelude.{IsTrue, IfOk, is_none, min, not, ◌||◌, codes, nat_eq, nat_lt, Result}
 use Rattle.std.specs.Cmp.Lexicographic.{pointwise}
 use Rattle.std.specs.FinMap as finite
 use Rattle.std.specs.Option.{option_map, option_map_or}
@@ -10,7 +10,7 @@ use Rattle.block_host.specs.declared.block.Block.{Block}
 use Rattle.forest_model.specs.Records.{record_bytes}
 use Rattle.file_image.specs.Commits.{live_bytes}
 use Rattle.forest_model.specs.Blocks.{File}
-use Rattle.forest_model.specs.Documents.{without_store}
+use Rattle.forest_model.specs.Documents.{Map, without_store}
 use Rattle.forest_model.specs.Limits.{is_name, any_worn}
 use Rattle.forest_model.specs.Run.{FileAfter}
 use Rattle.forest_model.specs.State.{IsState}
@@ -36,7 +36,9 @@ use Rattle.file_parts.specs.Moment.{Moment}
 use Rattle.file_core.specs.Updates.{StandsAt, IsFile, UpdatesAs, bytes_of}
 use Rattle.file_core.proofs.SetCauses.{none_holds, unmet, refused_first, answered_last}
 use Rattle.file_core.proofs.SetEntries.{older_len}
-use Rattle.file_core.proofs.Puts.{PutsKeep, Puts, puts_of_record, open_short, loose_is, room_left, bytes_are, size_is, documents_stay, grows, file_is}
+use Rattle.file_core.proofs.Puts.{PutsKeep, Puts, puts_of_record, open_short, loose_is, room_left, bytes_are, size_is, put_behind, documents_stay, grows, file_is}
+use Rattle.file_core.proofs.RecordedMore.{PutScans, More, told_of, gone_more, recorded_more}
+use Rattle.file_core.proofs.RecordedPuts.{grown_more, gone_is_record, found_below}
 use Rattle.file_core.proofs.Answered.{there_is, has_room, answered_as, failed_as, done_as}
 use Rattle.file_core.proofs.StoreCauses.{id_is}
 use Rattle.file_core.proofs.StoreLess.{rows_less, documents_less, numbers_less, unchanged_less, may_go}
@@ -76,7 +78,7 @@ module _ (told : Bool) (p : Held) (disk : Disk) (file : List Block) (s : State) 
 abbrev without_it : State → ℕ → State
 without_it s id = record (updated s (record_length [] [] [])) { stores = without s.stores id; documents = without_store s.documents id }
 
-module _ (rules : RulesStay) (keep : PutsKeep) (told : Bool) (at : StoreRef) (name : List ℕ) (old new : Moment) (s : State) (f : File) (stands : StandsAt told old s) (st : Store) (found : store_named s.stores name ≡ Some st) (other : pointwise nat_eq name (codes "default") ≡ false) (room : old.held.blocks + blocks_needed old.held [] [] [] + 2 ≤ old.held.limits.max_blocks) (stepped : step_of s f (calls.StoreRemove at name) ≡ (replies.Removed st.id, without_it s st.id)) (removes : RemovesStore told st.id old new) where
+module _ (rules : RulesStay) (keep : PutsKeep) (scans : PutScans) (told : Bool) (at : StoreRef) (name : List ℕ) (old new : Moment) (s : State) (f : File) (stands : StandsAt told old s) (st : Store) (found : store_named s.stores name ≡ Some st) (other : pointwise nat_eq name (codes "default") ≡ false) (room : old.held.blocks + blocks_needed old.held [] [] [] + 2 ≤ old.held.limits.max_blocks) (stepped : step_of s f (calls.StoreRemove at name) ≡ (replies.Removed st.id, without_it s st.id)) (removes : RemovesStore told st.id old new) (small : st.id < 2 ^ 64) where
   abbrev rec : Rec
   rec = gone_of st.id
 
@@ -98,6 +100,12 @@ module _ (rules : RulesStay) (keep : PutsKeep) (told : Bool) (at : StoreRef) (na
 
   live_now : old.held.live - min (own_live st.id old.held.wal.entries) (2 ^ 64 - 1) ≡ live_bytes (without_store s.documents st.id)
   live_now = omega (arith, less, stands.live, stands.within, stands.low, open_short stands)
+
+  more : IsTrue told → More old.held.revision old.held.tail new.held.tail old.file new.file (told_of s) (told_of (without_it s st.id))
+  more =
+      grown_more puts (told_of s) (told_of (without_it s st.id))
+      (gone_more scans rec (gone_is_record st.id small) (put_behind puts) s.next_store s.stores s.documents (without_store s.documents st.id) st.id refl
+      (found_below (λ t. pointwise nat_eq t.name name) s.next_store s.stores st stands.is_state.ids_drawn found) (λ t same. ap (λ (m : Map). without_store m st.id) same) refl)
 
   pub gone_stands : StandsAt told new (without_it s st.id)
   gone_stands = subst (λ (h : Held). Stands told h new.disk new.file (without_it s st.id)) (sym removes.rest) (record {
@@ -134,6 +142,7 @@ module _ (rules : RulesStay) (keep : PutsKeep) (told : Bool) (at : StoreRef) (na
     low = omega (arith, room_left puts room, stands.most);
     most = stands.most;
     within = omega (arith, live_now, less, stands.live, bytes_are puts, stands.within);
+    recorded = λ t. recorded_more old.held _ old.file new.file s (without_it s st.id) stands.rows rows_now refl refl refl refl (more t) (stands.recorded t);
   })
 
   pub gone_grows : FileAfter s f (Some (calls.StoreRemove at name)) (without_it s st.id) (f ++ bytes_of removes.puts.out)
@@ -152,28 +161,29 @@ or_second : (a b : Bool) → (a || b) ≡ false → b ≡ false
 or_second true b e = absurd (true≢false e)
 or_second false b e = e
 
-pub remove_updates : RulesStay → RecordsKeepHeader → PutsKeep → (told : Bool) (at : StoreRef) (name : List ℕ) (old new : Moment) (result : Result ℕ Refusal)
+pub remove_updates : RulesStay → RecordsKeepHeader → PutsKeep → PutScans → (told : Bool) (at : StoreRef) (name : List ℕ) (old new : Moment) (result : Result ℕ Refusal) → IfOk result (λ id. id < 2 ^ 64)
     → RemoveAnswers told at name old new result → (s : State) (f : File) → StandsAt told old s → IsFile told old.held old.file f → UpdatesAs told replies.Removed s f (calls.StoreRemove at name) old new result
-remove_updates rules headers keep told at name old new result answers s f stands was = answered_as told replies.Removed (calls.StoreRemove at name) old new s f stands was no_refusal _ result (remove_refused told old.held old.disk old.file s f at name stands was.long) (given result) answers where
+remove_updates rules headers keep scans told at name old new result ranged answers s f stands was = answered_as told replies.Removed (calls.StoreRemove at name) old new s f stands was no_refusal _ result (remove_refused told old.held old.disk old.file s f at name stands was.long) (given result ranged) answers where
   step : (st : Store) → first_cause (remove_causes old.held at name) ≡ None → store_named s.stores name ≡ Some st → step_of s f (calls.StoreRemove at name) ≡ (replies.Removed st.id, without_it s st.id)
   step st free found =
       remove_answered told old.held old.disk old.file s f at name stands was.long free
       ∙ ap (λ (o : Option Store). option_map_or {U = Outcome} (λ t. (replies.Removed t.id, without_it s t.id)) o (replies.Refused NoStore, s)) found
 
-  given : (r : Result ℕ Refusal) → first_cause (remove_causes old.held at name) ≡ None → RemoveGives told name old new r → UpdatesAs told replies.Removed s f (calls.StoreRemove at name) old new r
-  given (Ok id) free gives =
+  given : (r : Result ℕ Refusal) → IfOk r (λ id. id < 2 ^ 64) → first_cause (remove_causes old.held at name) ≡ None → RemoveGives told name old new r → UpdatesAs told replies.Removed s f (calls.StoreRemove at name) old new r
+  given (Ok id) ranged free gives =
       let it = some_mapped (store_named s.stores name) id (sym (id_is told old.held old.disk old.file s f name false stands was.long) ∙ gives.0) in
       let removes : RemovesStore told it.0.id old new = subst (λ (m : ℕ). RemovesStore told m old new) (sym it.2) gives.1 in
       let causes = none_holds (remove_causes old.held at name) free in
       let other : pointwise nat_eq name (codes "default") ≡ false = or_second _ _ (unmet _ _ causes.1.0) in
       let room : old.held.blocks + blocks_needed old.held [] [] [] + 2 ≤ old.held.limits.max_blocks = has_room _ _ _ (unmet _ _ causes.1.1.1.1.0) in
       let stepped = step it.0 free it.1 in
+      let small : it.0.id < 2 ^ 64 = subst (λ (n : ℕ). n < 2 ^ 64) (sym it.2) ranged in
       done_as told replies.Removed (calls.StoreRemove at name) old new s f stands was no_refusal id (without_it s it.0.id) (f ++ bytes_of removes.puts.out)
       (stepped ∙ ap (λ (m : ℕ). (replies.Removed m, without_it s it.0.id)) it.2)
-      (gone_stands rules keep told at name old new s f stands it.0 it.1 other room stepped removes)
-      (gone_grows rules keep told at name old new s f stands it.0 it.1 other room stepped removes)
-      (gone_file rules keep told at name old new s f stands it.0 it.1 other room stepped removes headers was)
-  given (Err why) free gives =
+      (gone_stands rules keep scans told at name old new s f stands it.0 it.1 other room stepped removes small)
+      (gone_grows rules keep scans told at name old new s f stands it.0 it.1 other room stepped removes small)
+      (gone_file rules keep scans told at name old new s f stands it.0 it.1 other room stepped removes small headers was)
+  given (Err why) ranged free gives =
       let causes = none_holds (remove_causes old.held at name) free in
       let it = there_is (store_named s.stores name) (sym (gone_is told old.held old.disk old.file s f at name stands was.long) ∙ unmet _ _ causes.1.1.0) in
       failed_as told replies.Removed (calls.StoreRemove at name) old new s f stands was no_refusal it.0.id why (ap (λ (o : Outcome). o.0) (step it.0 free it.1)) gives

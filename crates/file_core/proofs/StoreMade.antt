@@ -1,12 +1,13 @@
 -- The file stands for the state after the opening of a store.
 use Rattle.std.proofs.Common.{◌≡◌, ◌≢◌, ℕ, ◌+◌, ◌/◌, ◌≤◌, Bool, false, List, [], ◌∷◌, ◌++◌, map, Option, Some, None, Ok, Err, refl, sym, ap, subst, ◌∙◌, arith, inr}
-use Rattle.std.specs.Prelude.{is_none, MatchBool, MatchOption, MatchResult, Result, if◌then◌else◌}
+use Rattle.std.specs.Prelude.{IsTrue, is_none, MatchBool, MatchOption, MatchResult, Result, if◌then◌else◌}
 use Rattle.std.specs.Option.{option_map, option_map_or}
 use Rattle.std.proofs.lemmas.Bool.{ne_eqb}
 use Rattle.std.proofs.lemmas.Option.{none-some, same_Some}
-use Rattle.forest_model.specs.Records.{record_bytes}
+use Rattle.forest_model.specs.Records.{record_bytes, is_record}
 use Rattle.forest_model.specs.Blocks.{File}
 use Rattle.forest_model.specs.Run.{FileAfter, Grows, AddsRecords}
+use Rattle.forest_model.specs.Documents.{Map}
 use Rattle.forest_model.specs.State.{IsState}
 use Rattle.forest_model.specs.Stores.{store_named, new_store}
 use Rattle.forest_model.specs.Step.{Outcome, first_cause, record_length, step_of, updated}
@@ -26,7 +27,9 @@ use Rattle.file_parts.specs.Moment.{Moment}
 use Rattle.file_parts.specs.Records.{NotPut}
 use Rattle.file_core.specs.Updates.{StandsAt, IsFile, UpdatesAs, bytes_of}
 use Rattle.file_core.proofs.SetCauses.{none_holds, unmet}
-use Rattle.file_core.proofs.Puts.{PutsKeep, Puts, puts_of_record, loose_is, room_left, bytes_are, size_is, documents_stay, grows, file_is}
+use Rattle.file_core.proofs.Puts.{PutsKeep, Puts, puts_of_record, loose_is, room_left, bytes_are, size_is, put_behind, documents_stay, grows, file_is}
+use Rattle.file_core.proofs.RecordedMore.{PutScans, More, told_of, made_more, recorded_more}
+use Rattle.file_core.proofs.RecordedPuts.{grown_more, new_is_record}
 use Rattle.file_core.proofs.Answered.{kept_stands, kept_file, has_room, answered_as, failed_as, done_as}
 use Rattle.file_core.proofs.StoreTables.{rows_added, none_of_next, numbers_added, unchanged_added}
 use Rattle.file_core.proofs.StoreCauses.{id_is, open_refused, open_answered}
@@ -35,7 +38,7 @@ use Rattle.file_core.proofs.StoreCauses.{id_is, open_refused, open_answered}
 abbrev with_store : State → List ℕ → State
 with_store s name = record (updated s (record_length name [] [])) { stores = s.stores ++ new_store s.next_store name ∷ []; next_store = s.next_store + 1 }
 
-module _ (rules : RulesStay) (keep : PutsKeep) (told : Bool) (name : List ℕ) (read_only : Bool) (old new : Moment) (s : State) (f : File) (stands : StandsAt told old s) (absent : store_named s.stores name ≡ None) (room : old.held.blocks + blocks_needed old.held name [] [] + 2 ≤ old.held.limits.max_blocks) (stepped : step_of s f (calls.StoreOpen name read_only) ≡ (replies.Store (record { store = s.next_store; read_only = false }), with_store s name)) (makes : MakesStore told name old new) where
+module _ (rules : RulesStay) (keep : PutsKeep) (scans : PutScans) (told : Bool) (name : List ℕ) (read_only : Bool) (old new : Moment) (s : State) (f : File) (stands : StandsAt told old s) (absent : store_named s.stores name ≡ None) (room : old.held.blocks + blocks_needed old.held name [] [] + 2 ≤ old.held.limits.max_blocks) (stepped : step_of s f (calls.StoreOpen name read_only) ≡ (replies.Store (record { store = s.next_store; read_only = false }), with_store s name)) (makes : MakesStore told name old new) (is : IsTrue (is_record (new_of old.held.names.next name))) where
   abbrev rec : Rec
   rec = new_of old.held.names.next name
 
@@ -49,6 +52,12 @@ module _ (rules : RulesStay) (keep : PutsKeep) (told : Bool) (name : List ℕ) (
   rows_now =
       (λ i. stands.rows i ++ record { id = stands.next_store i; name = name; seq = 0; documents = 0 } ∷ [])
       ∙ rows_added s.documents s.stores s.next_store name (none_of_next s stands.is_state)
+
+  more : IsTrue told → More old.held.revision old.held.tail new.held.tail old.file new.file (told_of s) (told_of (with_store s name))
+  more =
+      grown_more puts (told_of s) (told_of (with_store s name))
+      (made_more scans rec is (put_behind puts) s.next_store s.stores s.documents name refl stands.next_store (λ t same. same)
+      (ap {B = List Store × Map} (λ (id : ℕ). (s.stores ++ new_store id name ∷ [], s.documents)) stands.next_store))
 
   pub made_stands : StandsAt told new (with_store s name)
   made_stands = subst (λ (h : Held). Stands told h new.disk new.file (with_store s name)) (sym makes.rest) (record {
@@ -81,6 +90,7 @@ module _ (rules : RulesStay) (keep : PutsKeep) (told : Bool) (name : List ℕ) (
     low = omega (arith, room_left puts room, stands.most);
     most = stands.most;
     within = omega (arith, bytes_are puts, stands.within);
+    recorded = λ t. recorded_more old.held _ old.file new.file s (with_store s name) stands.rows rows_now refl refl refl refl (more t) (stands.recorded t);
   })
 
   pub made_grows : FileAfter s f (Some (calls.StoreOpen name read_only)) (with_store s name) (f ++ bytes_of makes.puts.out)
@@ -105,9 +115,9 @@ some_mapped (Some st) id e = (st, refl, same_Some st.id id e)
 no_refusal : (at : StoreRef) (why : Refusal) → replies.Store at ≢ replies.Refused why
 no_refusal at why e = cc
 
-pub open_updates : RulesStay → RecordsKeepHeader → PutsKeep → (told : Bool) (name : List ℕ) (read_only : Bool) (old new : Moment) (result : Result StoreRef Refusal)
+pub open_updates : RulesStay → RecordsKeepHeader → PutsKeep → PutScans → (told : Bool) (name : List ℕ) (read_only : Bool) (old new : Moment) (result : Result StoreRef Refusal)
     → OpenAnswers told name read_only old new result → (s : State) (f : File) → StandsAt told old s → IsFile told old.held old.file f → UpdatesAs told replies.Store s f (calls.StoreOpen name read_only) old new result
-open_updates rules headers keep told name read_only old new result answers s f stands was = answered_as told replies.Store (calls.StoreOpen name read_only) old new s f stands was no_refusal _ result (open_refused told old.held old.disk old.file s f name read_only stands was.long) (by_id (id_named old.held.names name) refl) answers where
+open_updates rules headers keep scans told name read_only old new result answers s f stands was = answered_as told replies.Store (calls.StoreOpen name read_only) old new s f stands was no_refusal _ result (open_refused told old.held old.disk old.file s f name read_only stands was.long) (by_id (id_named old.held.names name) refl) answers where
   -- it is there
   there : (id : ℕ) → first_cause (open_causes old.held name read_only) ≡ None → id_named old.held.names name ≡ Some id → result ≡ Ok (record { store = id; read_only = read_only }) → OnlyMemory old new
       → UpdatesAs told replies.Store s f (calls.StoreOpen name read_only) old new result
@@ -141,13 +151,16 @@ open_updates rules headers keep told name read_only old new result answers s f s
     room : old.held.blocks + blocks_needed old.held name [] [] + 2 ≤ old.held.limits.max_blocks
     room = has_room _ _ _ (unmet _ _ (none_holds (make_causes old.held name read_only) may).1.1.1.0)
 
+    is : IsTrue (is_record (new_of old.held.names.next name))
+    is = new_is_record old.held.names.next (old.held.place + 1) name (unmet _ _ (none_holds (open_causes old.held name read_only) free).0) (unmet _ _ (none_holds (make_causes old.held name read_only) may).1.0)
+
     give : (r : Result StoreRef Refusal) → MatchResult r (λ at. (at ≡ record { store = old.held.names.next; read_only = false }) × MakesStore told name old new) (NotPut old new) → UpdatesAs told replies.Store s f (calls.StoreOpen name read_only) old new r
     give (Ok at) gives =
         done_as told replies.Store (calls.StoreOpen name read_only) old new s f stands was no_refusal at (with_store s name) (f ++ bytes_of gives.1.puts.out)
         (step ∙ ap (λ (x : StoreRef). (replies.Store x, with_store s name)) (ap (λ (m : ℕ). record { store = m; read_only = false }) (sym stands.next_store) ∙ sym gives.0))
-        (made_stands rules keep told name read_only old new s f stands absent room step gives.1)
-        (made_grows rules keep told name read_only old new s f stands absent room step gives.1)
-        (made_file rules keep told name read_only old new s f stands absent room step gives.1 headers was)
+        (made_stands rules keep scans told name read_only old new s f stands absent room step gives.1 is)
+        (made_grows rules keep scans told name read_only old new s f stands absent room step gives.1 is)
+        (made_file rules keep scans told name read_only old new s f stands absent room step gives.1 is headers was)
     give (Err why) gives = failed_as told replies.Store (calls.StoreOpen name read_only) old new s f stands was no_refusal _ why (ap (λ (o : Outcome). o.0) step) gives
 
   by_id : (id : Option ℕ) → id_named old.held.names name ≡ id → first_cause (open_causes old.held name read_only) ≡ None → OpenGives told name read_only old new id result

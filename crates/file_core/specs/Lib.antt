@@ -1,3 +1,4 @@
+pub mod Recorded
 pub mod Stands
 pub mod Reads
 pub mod Layout

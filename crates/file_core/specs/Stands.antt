@@ -20,6 +20,7 @@ use Rattle.forest_model.specs.declared.stored.Entry.{Entry}
 use Rattle.wal_index.specs.Index.{Map as Entries, entry_at, has_number}
 use Rattle.file_documents.specs.Setting.{put_of}
 use Rattle.file_parts.specs.Held.{Held}
+use Rattle.file_core.specs.Recorded.{IsRecorded}
 
 -- a store's row in a table, with how many documents it has
 abbrev pub row_in : Map → Store → StoreRow
@@ -91,3 +92,5 @@ pub record Stands (told : Bool) (p : Held) (disk : Disk) (file : List Block) (s 
   pub most : s.limits.max_blocks ≤ 2 ^ 32
   -- the documents' records are among the bytes put
   pub within : p.live ≤ p.blocks * 4064 + length p.tail.bytes
+  -- what the records of the file make
+  pub recorded : IsTrue told → IsRecorded p file s

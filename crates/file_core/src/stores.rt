@@ -6,7 +6,7 @@ ghost use Rattle.forest_model.specs.declared.call.Reply.TheVariants as Reply;
 
 use crate::FileState;
 use block_host::Host;
-use doc_stream::puts_keep_records;
+use doc_stream::{put_is_scanned, puts_keep_records};
 use file_stores::{open_store, remove_store};
 use forest_model::{Refusal, StoreRef};
 use model_laws::{record_blocks, rules};
@@ -23,6 +23,7 @@ impl<H: Host> FileState<H> {
         rules();
         record_blocks();
         puts_keep_records();
+        put_is_scanned();
         if let Some(faults) = self.parts.stopped {
             return Err(Refusal::Stopped { faults });
         }
@@ -40,6 +41,7 @@ impl<H: Host> FileState<H> {
         rules();
         record_blocks();
         puts_keep_records();
+        put_is_scanned();
         if let Some(faults) = self.parts.stopped {
             return Err(Refusal::Stopped { faults });
         }

@@ -7,7 +7,7 @@ ghost use Rattle.forest_model.specs.declared.call.Reply.TheVariants as Reply;
 
 use crate::FileState;
 use block_host::Host;
-use doc_stream::{put_stands, puts_join, puts_keep_records};
+use doc_stream::{put_is_scanned, put_stands, puts_join, puts_keep_records};
 use file_documents::{batch, delete, set};
 use forest_model::{Item, Refusal, StoreRef};
 use model_laws::{record_blocks, rules};
@@ -31,6 +31,7 @@ impl<H: Host> FileState<H> {
         record_blocks();
         put_stands();
         puts_keep_records();
+        put_is_scanned();
         let stop = self.parts.stopped;
         if let Some(faults) = stop {
             return Err(Refusal::Stopped { faults });
@@ -49,6 +50,7 @@ impl<H: Host> FileState<H> {
         rules();
         record_blocks();
         puts_keep_records();
+        put_is_scanned();
         if let Some(faults) = self.parts.stopped {
             return Err(Refusal::Stopped { faults });
         }
@@ -70,6 +72,7 @@ impl<H: Host> FileState<H> {
         record_blocks();
         put_stands();
         puts_keep_records();
+        put_is_scanned();
         puts_join();
         if let Some(faults) = self.parts.stopped {
             return Err(Refusal::Stopped { faults });

@@ -9,7 +9,9 @@ use Rattle.std.proofs.lemmas.Bool.{false≢true}
 use Rattle.block_host.specs.Disk.{Disk}
 use Rattle.block_host.specs.declared.block.Block.{Block}
 use Rattle.doc_stream.specs.OpenBlock.{OpenBlock}
+use Rattle.doc_stream.specs.Scanned.{IsScanned}
 use Rattle.file_parts.specs.Held.{Held}
+use Rattle.file_core.specs.Recorded.{IsRecorded}
 use Rattle.file_core.specs.Stands.{Stands, AreDocuments, DrawNumbers, HasDocument, SameAtSameNumber}
 use Rattle.file_image.specs.Commits.{live_of, live_bytes}
 use Rattle.file_image.specs.NewStore.{default_row}
@@ -98,6 +100,27 @@ nothing_is_new limits = ap (λ es. are_same_stores first_stores first_stores && 
 row_is : default_row 0 0 ∷ [] ≡ default_row 0 (count_of no_documents 0) ∷ []
 row_is = ap (λ n. default_row 0 n ∷ []) (none_counted 0)
 
+-- no record is in the file, and none in the open block
+none_scanned : (limits : Limits) (file : List Block) → length file ≡ 1 → IsScanned 1 file (record { number = 1; bytes = [] }) 1 []
+none_scanned limits file size = record {
+  ends = record { number = sym size; short = omega arith };
+  pieces = [];
+  count = 0;
+  counted = sym size;
+  blocks = refl;
+  are = refl;
+}
+
+no_records : (limits : Limits) (file : List Block) → length file ≡ 1 → IsRecorded (new_held limits) file (new_state limits)
+no_records limits file size = record {
+  records = [];
+  scanned = none_scanned limits file size;
+  made = record { known = tt; rise = tt; above = λ k d there. no_document k d there; folded = refl; last = (tt, tt) };
+  recent = [];
+  behind = none_scanned limits file size;
+  folded = refl;
+}
+
 module _ (told : Bool) (limits : Limits) (most : limits.max_blocks ≤ 2 ^ 32) (disk : Disk) (file : List Block) (shown : IsTrue told → file ≡ disk.files 1) (size : IsTrue told → length file ≡ 1) where
   new_stands : Stands told (new_held limits) disk file (new_state limits)
   new_stands = record {
@@ -130,6 +153,7 @@ module _ (told : Bool) (limits : Limits) (most : limits.max_blocks ≤ 2 ^ 32) (
     low = omega arith;
     most = most;
     within = omega arith;
+    recorded = λ tells. no_records limits file (size tells);
   }
 
   pub stands_by : (p : Held) → p ≡ new_held limits → Stands told p disk file (new_state limits)

@@ -6,6 +6,7 @@ use Rattle.std.proofs.lemmas.Bool.{false≢true}
 use Rattle.block_host.specs.Disk.{Disk, Image}
 use Rattle.block_host.specs.declared.block.Block.{Block}
 use Rattle.file_parts.specs.Held.{Held}
+use Rattle.file_core.specs.Recorded.{IsRecorded}
 use Rattle.file_core.specs.Stands.{Stands, AreDocuments, HasDocument, IsKept}
 use Rattle.file_core.specs.Updates.{IsFile, bytes_of}
 use Rattle.forest_model.specs.Blocks.{File}
@@ -63,6 +64,7 @@ module _ (told : Bool) (p : Held) (disk disk' : Disk) (file file' : List Block) 
     low = st.low;
     most = st.most;
     within = st.within;
+    recorded = λ t. subst (λ (bs : List Block). IsRecorded p bs s) (sym (same t)) (st.recorded t);
   }
 
   pub is_file_kept : (f : File) → IsFile told p file f → IsFile told p file' f
