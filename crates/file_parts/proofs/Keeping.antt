@@ -34,7 +34,7 @@ keeps_none told m result apart = record {
   clock = omega arith;
   counts = omega arith;
   untroubled = λ _. refl;
-  refused = λ _ _ _. record { held = refl; entries = refl; files = refl; file = refl };
+  refused = λ _ _ _. record { held = refl; entries = refl; gone = refl; files = refl; file = refl };
   halts = λ e. absurd (apart e);
   view_count = refl;
   opened = refl;
@@ -85,9 +85,9 @@ keeps_on_ok told old mid new first value keeps disk host view opened damaged flo
 }
 
 -- the index has room before
-pub keeps_roomy : {T : Type 0} (told : Bool) (old new : Moment) (w : Index) (result : Result T Refusal) → w.entries ≡ old.held.wal.entries
+pub keeps_roomy : {T : Type 0} (told : Bool) (old new : Moment) (w : Index) (result : Result T Refusal) → w.entries ≡ old.held.wal.entries → w.gone ≡ old.held.wal.gone
     → Keeps told (record old { held = record (old.held) { wal = w } }) new result → Keeps told old new result
-keeps_roomy told old new w result same keeps = record {
+keeps_roomy told old new w result same same_gone keeps = record {
   aside = keeps.aside;
   front = keeps.front;
   clock = keeps.clock;
@@ -95,10 +95,10 @@ keeps_roomy told old new w result same keeps = record {
   untroubled = keeps.untroubled;
   refused = λ why is apart.
       let only = keeps.refused why is apart in
-      record { held = only.held; entries = only.entries ∙ same; files = only.files; file = only.file };
+      record { held = only.held; entries = only.entries ∙ same; gone = only.gone ∙ same_gone; files = only.files; file = only.file };
   halts = λ is.
       let halts = keeps.halts is in
-      record { rises = halts.rises; held = halts.held; entries = halts.entries ∙ same; file = halts.file };
+      record { rises = halts.rises; held = halts.held; entries = halts.entries ∙ same; gone = halts.gone ∙ same_gone; file = halts.file };
   view_count = keeps.view_count;
   opened = keeps.opened;
   damaged = keeps.damaged;

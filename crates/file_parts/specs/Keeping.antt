@@ -22,6 +22,7 @@ pub record Halts (told : Bool) (old new : Moment) : Type 0 where
   pub rises : risen old.host_faults ≤ new.host_faults
   pub held : new.held ≡ record old.held { wal = new.held.wal; tail = new.held.tail; stopped = Some new.host_faults }
   pub entries : new.held.wal.entries ≡ old.held.wal.entries
+  pub gone : new.held.wal.gone ≡ old.held.wal.gone
   pub file : IsTrue told → new.file ≡ old.file
 
 -- What an updating call keeps, whatever it answers.
