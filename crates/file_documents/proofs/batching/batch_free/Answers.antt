@@ -25,8 +25,8 @@ returns-clause-gives g c =
           (moment c.args.parts.now)
           (moment c.grow_or_stop.new.parts)
           (moment c.enter_batch.new.parts)
-          c.put_batch.new.wal b.tail b.out.items c.as_slice.result.now c.requires.seq c.requires.documents c.put_batch.ensures.entries c.in_ok-tail.ensures.put
+          c.put_batch.new.wal b.tail b.out.items c.as_slice.result.now c.requires.seq c.requires.documents c.put_batch.ensures.entries c.put_batch.ensures.gone c.in_ok-tail.ensures.put
           c.in_ok-grow_or_stop.ensures.kept (ap g.H.Host.disk c.enter_batch.ensures.outside.host) (ap g.H.View.View.content c.enter_batch.ensures.outside.view)
           c.as_slice.ensures.value c.in_ok-grow_or_stop.ensures.files c.in_ok-grow_or_stop.ensures.shown
-          c.enter_batch.ensures.entries c.enter_batch.ensures.rest,
+          c.enter_batch.ensures.entries c.enter_batch.ensures.gone c.enter_batch.ensures.rest,
     )
