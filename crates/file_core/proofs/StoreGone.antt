@@ -173,6 +173,7 @@ remove_updates rules headers keep told at name old new result answers s f stands
       (gone_stands rules keep told at name old new s f stands it.0 it.1 other room stepped removes)
       (gone_grows rules keep told at name old new s f stands it.0 it.1 other room stepped removes)
       (gone_file rules keep told at name old new s f stands it.0 it.1 other room stepped removes headers was)
+      gives.1.gone
   given (Err why) free gives =
       let causes = none_holds (remove_causes old.held at name) free in
       let it = there_is (store_named s.stores name) (sym (gone_is told old.held old.disk old.file s f at name stands was.long) ∙ unmet _ _ causes.1.1.0) in
