@@ -3,7 +3,8 @@ ghost use Rattle.block_host.specs.Order.{IsSettled};
 ghost use Rattle.file_parts.specs.Held.{held};
 ghost use Rattle.file_core.specs.Updates.{Commits};
 ghost use Rattle.file_parts.specs.Moment.{moment};
-ghost use Rattle.file_parts.specs.Keeping.{Keeps, Outside, StaysStopped};
+ghost use Rattle.file_parts.specs.Growing.{IsAny};
+ghost use Rattle.file_parts.specs.Keeping.{KeepsWith, Outside, StaysStopped};
 ghost use Rattle.file_commit.specs.Committing.{is_commit_worn, is_far, CommitAnswers, CommitGives};
 
 use crate::disk::put_commit;
@@ -29,7 +30,7 @@ pub fn commit<H: Host>(file: &mut FileState<H>, at: &StoreRef) -> Result<u64, Re
     ensures commits { Commits H.tells at.now (moment file.old.parts) (moment file.new.parts) result }
     ensures stopped { StaysStopped file.old.parts file.new.parts result }
     ensures settled { IsTrue H.tells → OnOk result ((file.new.parts.place ≡ file.old.parts.place) ⊎ IsSettled file.old.parts.revision (H.disk file.new.parts.host)) }
-    ensures keeps { Keeps H.tells (moment file.old.parts) (moment file.new.parts) result }
+    ensures keeps { KeepsWith IsAny H.tells (moment file.old.parts) (moment file.new.parts) result }
 {
     rules();
     nothing_new();
@@ -47,7 +48,7 @@ pub fn commit<H: Host>(file: &mut FileState<H>, at: &StoreRef) -> Result<u64, Re
 fn commit_in<H: Host>(parts: &mut Parts<H>, at: &StoreRef) -> Result<u64, Refusal>
     ensures answers { CommitAnswers H.tells at.now (moment parts.old) (moment parts.new) result }
     ensures settled { IsTrue H.tells → OnOk result ((parts.new.place ≡ parts.old.place) ⊎ IsSettled parts.old.revision (H.disk parts.new.host)) }
-    ensures keeps { Keeps H.tells (moment parts.old) (moment parts.new) result }
+    ensures keeps { KeepsWith IsAny H.tells (moment parts.old) (moment parts.new) result }
 {
     if at.read_only {
         return Err(Refusal::ReadOnly);
@@ -79,7 +80,7 @@ fn commit_new<H: Host>(parts: &mut Parts<H>, stores: Stores) -> Result<u64, Refu
     requires stores { stores ≡ parts.old.names.rows }
     ensures gives { CommitGives H.tells (moment parts.old) (moment parts.new) result }
     ensures settled { IsTrue H.tells → OnOk result ((parts.new.place ≡ parts.old.place) ⊎ IsSettled parts.old.revision (H.disk parts.new.host)) }
-    ensures keeps { Keeps H.tells (moment parts.old) (moment parts.new) result }
+    ensures keeps { KeepsWith IsAny H.tells (moment parts.old) (moment parts.new) result }
 {
     let header = next_header(parts, stores);
     let number = header.commit;

@@ -1,6 +1,7 @@
 ghost use Rattle.std.specs.Prelude.{◌≡◌, ◌≤◌, ◌++◌, ◌∷◌, [], IsTrue, OnOk, OnErr};
 ghost use Rattle.block_host.specs.Disk.{risen};
 ghost use Rattle.block_host.specs.Order.{IsSettled};
+ghost use Rattle.file_parts.specs.Growing.{Grows, IsAny};
 ghost use Rattle.file_parts.specs.Keeping.{Begins};
 ghost use Rattle.file_parts.specs.Moment.{Aside};
 ghost use Rattle.file_commit.specs.Committing.{listed};
@@ -22,6 +23,7 @@ pub(crate) fn put_commit<H: Host>(
     ensures settled { IsTrue H.tells → OnOk result (IsSettled file (H.disk host.new)) }
     ensures aside { IsTrue H.tells → Aside file (H.disk host.old) (H.disk host.new) }
     ensures front { IsTrue H.tells → Begins ((H.disk host.old).files file) ((H.disk host.new).files file) }
+    ensures crash { IsTrue H.tells → Grows IsAny file (H.disk host.old) (H.disk host.new) }
     ensures failed { OnErr result (risen (H.faults host.old) ≤ H.faults host.new) }
     ensures clock { (H.disk host.old).moment ≤ (H.disk host.new).moment }
     ensures counts { H.faults host.old ≤ H.faults host.new }
@@ -39,6 +41,7 @@ fn put_open_block<H: Host>(host: &mut H, file: u64, block: Option<Block>) -> Res
     ensures settled { IsTrue H.tells → OnOk result (IsSettled file (H.disk host.new)) }
     ensures aside { IsTrue H.tells → Aside file (H.disk host.old) (H.disk host.new) }
     ensures front { IsTrue H.tells → Begins ((H.disk host.old).files file) ((H.disk host.new).files file) }
+    ensures crash { IsTrue H.tells → Grows IsAny file (H.disk host.old) (H.disk host.new) }
     ensures failed { OnErr result (risen (H.faults host.old) ≤ H.faults host.new) }
     ensures clock { (H.disk host.old).moment ≤ (H.disk host.new).moment }
     ensures counts { H.faults host.old ≤ H.faults host.new }
@@ -56,6 +59,7 @@ fn put_header<H: Host>(host: &mut H, file: u64, header: &Block) -> Result<(), Fa
     ensures settled { IsTrue H.tells → OnOk result (IsSettled file (H.disk host.new)) }
     ensures aside { IsTrue H.tells → Aside file (H.disk host.old) (H.disk host.new) }
     ensures front { IsTrue H.tells → Begins ((H.disk host.old).files file) ((H.disk host.new).files file) }
+    ensures crash { IsTrue H.tells → Grows IsAny file (H.disk host.old) (H.disk host.new) }
     ensures failed { OnErr result (risen (H.faults host.old) ≤ H.faults host.new) }
     ensures clock { (H.disk host.old).moment ≤ (H.disk host.new).moment }
     ensures counts { H.faults host.old ≤ H.faults host.new }

@@ -19,7 +19,7 @@ use Rattle.file_parts.specs.Held.{Held}
 use Rattle.file_parts.specs.Moment.{Moment}
 use Rattle.file_parts.specs.Records.{NotPut}
 use Rattle.file_core.specs.Stands.{Stands, AreDocuments, DrawNumbers}
-use Rattle.file_core.specs.Updates.{StandsAt, IsFile, UpdatesAs, bytes_of}
+use Rattle.file_core.specs.Updates.{StandsAt, IsFile, UpdatesAs, bytes_of, gone_by}
 use Rattle.file_core.proofs.RecordedPuts.{recorded_kept}
 
 -- ---- what a cause that doesn't hold gives
@@ -87,6 +87,7 @@ module _ {T : Type 0} (told : Bool) (reply : T → Reply) (call : Call) (old new
   pub refused_as : (why : Refusal) (result : Result T Refusal) → step_of s f call ≡ (Refused why, s) → result ≡ Err why → OnlyMemory old new → UpdatesAs told reply s f call old new result
   refused_as why result step is same = subst (λ (r : Result T Refusal). UpdatesAs told reply s f call old new r) (sym is) (record {
     done = tt;
+    gone = tt;
     refused = λ other h. ap Err (same_refusal why other (sym (ap (λ (o : Outcome). o.0) step) ∙ h));
     reason = inl (ap (λ (o : Outcome). o.0) step, kept_stands told old new s stands same, kept_file told old new f was same);
   })
@@ -95,6 +96,7 @@ module _ {T : Type 0} (told : Bool) (reply : T → Reply) (call : Call) (old new
   pub failed_as : (value : T) (why : Refusal) → (step_of s f call).0 ≡ reply value → NotPut old new why → UpdatesAs told reply s f call old new (Err why)
   failed_as value why step gives = record {
     done = tt;
+    gone = tt;
     refused = λ other h. absurd (no_refusal value other (sym step ∙ h));
     reason = elim gives [
       | inl memory ↦ inr (inl (memory.0, kept_stands told old new s stands memory.1, kept_file told old new f was memory.1))
@@ -107,13 +109,14 @@ module _ {T : Type 0} (told : Bool) (reply : T → Reply) (call : Call) (old new
 
   -- the step replies the value, and the file stands for the state after it
   pub done_as : (value : T) (after : State) (g : File) → step_of s f call ≡ (reply value, after) → StandsAt told new after → FileAfter s f (Some call) after g → IsFile told new.held new.file g
-      → UpdatesAs told reply s f call old new (Ok value)
-  done_as value after g step now grows file = record {
+      → new.held.wal.gone ≡ gone_by (reply value) old.held.wal.gone → UpdatesAs told reply s f call old new (Ok value)
+  done_as value after g step now grows file gone = record {
     done = (
       ap (λ (o : Outcome). o.0) step,
       subst (λ (o : Outcome). StandsAt told new o.1) (sym step) now,
       (g, subst (λ (o : Outcome). FileAfter s f (Some call) o.1 g) (sym step) grows, file),
     );
+    gone = gone;
     refused = λ other h. absurd (no_refusal value other (sym (ap (λ (o : Outcome). o.0) step) ∙ h));
     reason = tt;
   }

@@ -108,6 +108,7 @@ module _ (keep : PutsKeep) (lands : PutStands) (joins : PutsJoin) (nones : PutsN
     out = batches.out;
     writes = record {
       put = subst (λ (x : OpenBlock). PutsBytes old.held.revision (bytes_of_items at.store (seq_in old.held.names.rows at.store) items) old.held.tail x [] batches.out) tail_is joined;
+      gone = batches.gone;
       rest = batches.rest ∙ (λ i. record old.held {
         blocks = (tail_is i).number;
         names = counted old.held.names at.store (ends.1 i) end.documents;
@@ -196,4 +197,5 @@ batch_updates rules headers keep lands joins nones scans told at items some old 
       (batch_stands keep lands joins nones told at items some old new s f stands was.long there.0 there.1 last goes room step gives.1 rules scans)
       (written_grows whole (λ adds. adds))
       (written_file whole headers was)
+      gives.1.gone
   given (Err why) free gives = failed_as told replies.Seq (calls.Batch at items) old new s f stands was no_refusal _ why (ap (λ (o : Outcome). o.0) (step_is free)) gives

@@ -163,6 +163,7 @@ delete_updates rules headers keep scans told at key old new result answers s f s
       (delete_stands keep told at key old new s f stands was.long there.0 there.1 document.0 document.1 room step deletes rules scans)
       (written_grows whole (λ adds. adds))
       (written_file whole headers was)
+      gives.1.writes.writes.gone
   given (Err why) free gives =
       let step = delete_answered told old.held old.disk old.file s f at key stands was.long free in
       failed_as told replies.Seq (calls.Delete at key) old new s f stands was no_refusal _ why (ap (λ (o : Outcome). o.0) step) gives

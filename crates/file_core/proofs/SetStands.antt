@@ -65,7 +65,7 @@ module _ (keep : PutsKeep) (lands : PutStands) (told : Bool) (at : StoreRef) (ke
     room = room;
     long = length-record (put_of k d);
     stepped = ap (λ (o : Outcome). o.1) stepped;
-    writes = record { out = sets.out; writes = record { put = sets.sets.put; rest = sets.sets.rest }; files = sets.files; shown = sets.shown };
+    writes = record { out = sets.out; writes = record { put = sets.sets.put; gone = sets.sets.gone; rest = sets.sets.rest }; files = sets.files; shown = sets.shown };
   }
 
   documents_are : AreDocuments told old.held.revision new.file new.held.tail new.held.wal.entries m
@@ -132,6 +132,7 @@ set_updates rules headers keep lands scans told at key meta body old new result 
       (set_stands keep lands told at key meta body old new s f stands was.long there.0 there.1 room step sets rules scans)
       (written_grows whole (λ adds. adds))
       (written_file whole headers was)
+      gives.1.sets.gone
   given (Err why) free gives =
       let step = step_answered told old.held old.disk old.file s f at key meta body stands was.long free in
       failed_as told replies.Seq (calls.Set at key meta body) old new s f stands was no_refusal _ why (ap (λ (o : Outcome). o.0) step) gives

@@ -183,6 +183,7 @@ remove_updates rules headers keep scans told at name old new result ranged answe
       (gone_stands rules keep scans told at name old new s f stands it.0 it.1 other room stepped removes small)
       (gone_grows rules keep scans told at name old new s f stands it.0 it.1 other room stepped removes small)
       (gone_file rules keep scans told at name old new s f stands it.0 it.1 other room stepped removes small headers was)
+      gives.1.gone
   given (Err why) ranged free gives =
       let causes = none_holds (remove_causes old.held at name) free in
       let it = there_is (store_named s.stores name) (sym (gone_is told old.held old.disk old.file s f at name stands was.long) ∙ unmet _ _ causes.1.1.0) in

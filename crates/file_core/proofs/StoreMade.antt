@@ -131,7 +131,8 @@ open_updates rules headers keep scans told name read_only old new result answers
       (done_as told replies.Store (calls.StoreOpen name read_only) old new s f stands was no_refusal (record { store = id; read_only = read_only }) s f step
       (kept_stands told old new s stands same)
       (subst (λ (b : Bool). MatchBool b (Grows s f (calls.StoreOpen name read_only) f) (f ≡ f)) (sym (ne_eqb s.place (s.place + 1) (λ e. absurd (omega (arith, e))))) refl)
-      (kept_file told old new f was same))
+      (kept_file told old new f was same)
+      same.gone)
 
   -- it is made
   made : (r : Result StoreRef Refusal) → first_cause (open_causes old.held name read_only) ≡ None → id_named old.held.names name ≡ None
@@ -161,6 +162,7 @@ open_updates rules headers keep scans told name read_only old new result answers
         (made_stands rules keep scans told name read_only old new s f stands absent room step gives.1 is)
         (made_grows rules keep scans told name read_only old new s f stands absent room step gives.1 is)
         (made_file rules keep scans told name read_only old new s f stands absent room step gives.1 is headers was)
+        (ap (λ (h : Held). h.wal.gone) gives.1.rest)
     give (Err why) gives = failed_as told replies.Store (calls.StoreOpen name read_only) old new s f stands was no_refusal _ why (ap (λ (o : Outcome). o.0) step) gives
 
   by_id : (id : Option ℕ) → id_named old.held.names name ≡ id → first_cause (open_causes old.held name read_only) ≡ None → OpenGives told name read_only old new id result

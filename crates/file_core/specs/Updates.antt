@@ -1,5 +1,5 @@
 -- What an updating call of an open file answers and changes.
-use Rattle.std.specs.Prelude.{◌≡◌, ◌⊎◌, ◌≤◌, ℕ, Bool, IsTrue, List, length, map, Some, IfOk, IfErr, Result, Err}
+use Rattle.std.specs.Prelude.{◌≡◌, ◌⊎◌, ◌≤◌, ℕ, Bool, IsTrue, List, [], ◌∷◌, ◌++◌, length, map, Some, IfOk, IfErr, Result, Err}
 use Rattle.block_host.specs.Disk.{risen}
 use Rattle.block_host.specs.declared.block.Block.{Block}
 use Rattle.forest_model.specs.Blocks.{File, last_header}
@@ -9,7 +9,7 @@ use Rattle.forest_model.specs.declared.call.Call.{Call}
 use Rattle.forest_model.specs.declared.call.Call.TheVariants as calls
 use Rattle.forest_model.specs.declared.call.StoreRef.{StoreRef}
 use Rattle.forest_model.specs.declared.call.Reply.{Reply}
-use Rattle.forest_model.specs.declared.call.Reply.TheVariants.{Refused, Committed}
+use Rattle.forest_model.specs.declared.call.Reply.TheVariants.{Refused, Committed, Removed}
 use Rattle.forest_model.specs.declared.refusal.Refusal.{Refusal}
 use Rattle.forest_model.specs.declared.state.State.{State}
 use Rattle.file_parts.specs.Held.{Held}
@@ -31,16 +31,22 @@ pub record IsFile (told : Bool) (p : Held) (file : List Block) (f : File) : Type
   pub header : last_header f ≡ Some p.header_at
   pub from : unflushed_from f ≡ p.header.wal_from
 
+-- the stores that are gone, once a call replies: one that it removes is behind the others
+abbrev pub gone_by : Reply → List ℕ → List ℕ
+gone_by (Removed id) gone = gone ++ id ∷ []
+gone_by reply gone = gone
+
 -- a count of faults rose
 abbrev pub Troubled : Moment → Moment → Type 0
 Troubled old new = (risen old.host_faults ≤ new.host_faults) ⊎ (risen old.view_faults ≤ new.view_faults)
 
 -- An update answers what the step answers over the current file, and the file stands for the state after it, with the blocks
--- that the update adds; a refusal of the step is its answer and leaves the state. Else memory was refused, which leaves the
--- state too, or a count of faults rose.
+-- that the update adds, and only a removal has a store go; a refusal of the step is its answer and leaves the state. Else
+-- memory was refused, which leaves the state too, or a count of faults rose.
 pub record UpdatesAs {T : Type 0} (told : Bool) (reply : T → Reply) (s : State) (f : File) (call : Call) (old new : Moment) (result : Result T Refusal) : Type 0 where
   pub done : IfOk result (λ value. ((step_of s f call).0 ≡ reply value) × StandsAt told new (step_of s f call).1
       × ((grown : File) × FileAfter s f (Some call) (step_of s f call).1 grown × IsFile told new.held new.file grown))
+  pub gone : IfOk result (λ value. new.held.wal.gone ≡ gone_by (reply value) old.held.wal.gone)
   pub refused : (why : Refusal) → (step_of s f call).0 ≡ Refused why → result ≡ Err why
   pub reason : IfErr result (λ why. (((step_of s f call).0 ≡ Refused why) × StandsAt told new s × IsFile told new.held new.file f)
       ⊎ ((why ≡ Refusal.NoMemory) × StandsAt told new s × IsFile told new.held new.file f)

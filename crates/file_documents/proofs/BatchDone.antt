@@ -16,12 +16,12 @@ use Rattle.file_documents.proofs.BatchPut.{known_at, puts_each}
 
 -- the records are put and the index has room, the blocks are in the file, and then all else is changed
 pub batched : (told : Bool) (store seq documents : ℕ) (items : List Item) (ps : List Pending) (old mid new : Moment) (w : Index) (t : OpenBlock) (out blocks : List Block)
-    → seq ≡ seq_in old.held.names.rows store → documents ≡ documents_in old.held.names.rows store → w.entries ≡ old.held.wal.entries
+    → seq ≡ seq_in old.held.names.rows store → documents ≡ documents_in old.held.names.rows store → w.entries ≡ old.held.wal.entries → w.gone ≡ old.held.wal.gone
     → PutsAll old.held.revision store seq items ps old.held.tail t [] out
     → mid.held ≡ record (old.held) { wal = w } → new.disk ≡ mid.disk → new.file ≡ mid.file
     → blocks ≡ out → (IsTrue told → mid.disk.files old.held.revision ≡ old.disk.files old.held.revision ++ blocks)
     → (IsTrue told → old.file ≡ old.disk.files old.held.revision → mid.file ≡ mid.disk.files old.held.revision)
-    → new.held.wal.entries ≡ (known_after store (known_from mid.held.wal.entries documents mid.held.live) ps).entries
+    → new.held.wal.entries ≡ (known_after store (known_from mid.held.wal.entries documents mid.held.live) ps).entries → new.held.wal.gone ≡ mid.held.wal.gone
     → new.held ≡ record (mid.held) {
       blocks = t.number;
       names = counted mid.held.names store (seq + length items) (known_after store (known_from mid.held.wal.entries documents mid.held.live) ps).documents;
@@ -32,7 +32,7 @@ pub batched : (told : Bool) (store seq documents : ℕ) (items : List Item) (ps 
       place = mid.held.place + 1;
     }
     → BatchesFile told store items old new
-batched told store seq documents items ps old mid new w t out blocks seq_is counts w_is puts mid_is disk_is file_is blocks_are files shown entries rest =
+batched told store seq documents items ps old mid new w t out blocks seq_is counts w_is gone_is puts mid_is disk_is file_is blocks_are files shown entries gone rest =
     let first : Turn = first_turn old.held store in
     let known : mid.held.wal.entries ≡ old.held.wal.entries = ap (λ (h : Held). h.wal.entries) mid_is ∙ w_is in
     let same : known_after store (known_from mid.held.wal.entries documents mid.held.live) ps ≡ known_after store (known_at first) ps =
@@ -44,6 +44,7 @@ batched told store seq documents items ps old mid new w t out blocks seq_is coun
       out = out;
       each = puts_each old.held.revision store items ps first last [] out (subst (λ (n : ℕ). PutsAll old.held.revision store n items ps old.held.tail t [] out) seq_is puts) refl refl;
       entries = entries ∙ ap (λ (x : Known). x.entries) same;
+      gone = gone ∙ ap (λ (h : Held). h.wal.gone) mid_is ∙ gone_is;
       rest = rest ∙ (λ i. record (mid_is i) {
         blocks = t.number;
         names = counted (mid_is i).names store (seq_is i + length items) (same i).documents;

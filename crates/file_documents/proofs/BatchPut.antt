@@ -13,6 +13,8 @@ use Rattle.forest_model.specs.declared.stored.Rec.{Rec}
 use Rattle.file_documents.specs.declared.batch_puts.Pending.{Pending}
 use Rattle.file_documents.specs.Batching.{Turn, PutsEach, item_record, item_entry, item_key, documents_with, live_with}
 use Rattle.file_documents.specs.BatchPuts.{Known, PutsAll, IsPut, entry_put, known_with, known_after, known_from, room_of}
+use Rattle.file_parts.specs.Growing.{AreNoHeaders}
+use Rattle.file_parts.proofs.Growing.{puts_no_headers}
 use Rattle.file_parts.proofs.Puts.{length-record}
 
 -- ---- one record
@@ -83,6 +85,15 @@ rooms_are revision store seq [] (p ∷ ps) a c before after h = absurd h
 rooms_are revision store seq (item ∷ items) [] a c before after h = absurd h
 rooms_are revision store seq (item ∷ items) (p ∷ ps) a c before after h =
     let rest = rooms_are revision store (seq + 1) items ps h.0 c h.1 after h.3 in λ i. h.2.room i ∷ rest i
+
+-- the blocks that go out are no headers
+pub all_no_headers : (revision store seq : ℕ) (items : List Item) (ps : List Pending) (a c : OpenBlock) (before after : List Block)
+    → PutsAll revision store seq items ps a c before after → AreNoHeaders before → AreNoHeaders after
+all_no_headers revision store seq [] [] a c before after h none = subst AreNoHeaders (sym h.1) none
+all_no_headers revision store seq [] (p ∷ ps) a c before after h none = absurd h
+all_no_headers revision store seq (item ∷ items) [] a c before after h none = absurd h
+all_no_headers revision store seq (item ∷ items) (p ∷ ps) a c before after h none =
+    all_no_headers revision store (seq + 1) items ps h.0 c h.1 after h.3 (puts_no_headers revision (record_bytes (item_record store (seq + 1) item)) a h.0 before h.1 h.2.put none)
 
 -- ---- with the entries made known
 

@@ -19,10 +19,10 @@ use Rattle.file_parts.proofs.Puts.{put_on}
 
 -- the index has room, the record is put, and then all else is changed
 pub entered : (told : Bool) (k : DocKey) (d : Doc) (old mid new : Moment) (w : Index) (room : List ℕ) (r : Rec) (e : Entry) (documents : ℕ)
-    → w.entries ≡ old.held.wal.entries → room ≡ k.key → r ≡ put_of k d → IsTrue (is_record r) → e ≡ entry_of old.held.tail k d → documents ≡ documents_in old.held.names.rows k.store
+    → w.entries ≡ old.held.wal.entries → w.gone ≡ old.held.wal.gone → room ≡ k.key → r ≡ put_of k d → IsTrue (is_record r) → e ≡ entry_of old.held.tail k d → documents ≡ documents_in old.held.names.rows k.store
     → PutsRecord told r (record old { held = record (old.held) { wal = w } }) mid → mid.held ≡ record (old.held) { wal = w; tail = mid.held.tail }
     → new.disk ≡ mid.disk → new.file ≡ mid.file
-    → new.held.wal.entries ≡ finite.insert mid.held.wal.entries (key_at k.store room) e
+    → new.held.wal.entries ≡ finite.insert mid.held.wal.entries (key_at k.store room) e → new.held.wal.gone ≡ mid.held.wal.gone
     → new.held ≡ record (mid.held) {
       blocks = mid.held.tail.number;
       names = counted mid.held.names k.store e.seq (documents_after (finite.get mid.held.wal.entries (key_at k.store room)) documents);
@@ -32,7 +32,7 @@ pub entered : (told : Bool) (k : DocKey) (d : Doc) (old mid new : Moment) (w : I
       place = mid.held.place + 1;
     }
     → SetsFile told k d old new
-entered told k d old mid new w room r e documents w_is room_is r_is is e_is counts puts mid_is disk_is file_is inserted rest =
+entered told k d old mid new w room r e documents w_is gone_is room_is r_is is e_is counts puts mid_is disk_is file_is inserted gone rest =
     let t_is : mid.held.tail ≡ new.held.tail = sym (ap (λ (h : Held). h.tail) rest) in
     let known : mid.held.wal.entries ≡ old.held.wal.entries = ap (λ (h : Held). h.wal.entries) mid_is ∙ w_is in
     let lies : PutsRecord told (put_of k d) old new = put_on told old mid new w r (put_of k d) r_is puts t_is disk_is file_is in
@@ -42,6 +42,7 @@ entered told k d old mid new w room r e documents w_is room_is r_is is e_is coun
         is_record = subst (λ (q : Rec). IsTrue (is_record q)) r_is is;
         put = lies.put;
         entries = inserted ∙ (λ i. finite.insert (known i) (key_at k.store (room_is i)) (e_is i));
+        gone = gone ∙ ap (λ (h : Held). h.wal.gone) mid_is ∙ gone_is;
         rest = rest ∙ (λ i. record (mid_is i) {
           blocks = (t_is i).number;
           names = counted (mid_is i).names k.store (e_is i).seq (documents_after (finite.get (known i) (key_at k.store (room_is i))) (counts i));

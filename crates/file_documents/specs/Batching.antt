@@ -115,6 +115,7 @@ pub record BatchesFile (told : Bool) (store : ℕ) (items : List Item) (old new 
   pub out : List Block
   pub each : PutsEach old.held.revision store items (first_turn old.held store) last [] out
   pub entries : new.held.wal.entries ≡ last.entries
+  pub gone : new.held.wal.gone ≡ old.held.wal.gone
   pub rest : new.held ≡ record old.held {
     blocks = last.tail.number;
     names = counted old.held.names store last.seq last.documents;

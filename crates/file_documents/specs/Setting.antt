@@ -62,6 +62,7 @@ pub record Sets (p q : Held) (k : DocKey) (d : Doc) (out : List Block) : Type 0 
   pub is_record : IsTrue (is_record (put_of k d))
   pub put : PutsBytes p.revision (record_bytes (put_of k d)) p.tail q.tail [] out
   pub entries : q.wal.entries ≡ finite.insert p.wal.entries k (entry_of p.tail k d)
+  pub gone : q.wal.gone ≡ p.wal.gone
   pub rest : q ≡ record p {
     blocks = q.tail.number;
     names = counted p.names k.store d.seq (documents_after (finite.get p.wal.entries k) (documents_in p.names.rows k.store));

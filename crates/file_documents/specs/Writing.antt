@@ -6,9 +6,11 @@ use Rattle.kvs_names.specs.Table.{counted}
 use Rattle.file_parts.specs.Held.{Held}
 use Rattle.file_parts.specs.Moment.{Moment}
 
--- Bytes of records are put, the store comes to a number and a count of documents, and the live records to their bytes.
+-- Bytes of records are put, the store comes to a number and a count of documents, and the live records to their bytes. No
+-- store goes.
 pub record Writes (p q : Held) (store seq documents live : ℕ) (bytes : List ℕ) (out : List Block) : Type 0 where
   pub put : PutsBytes p.revision bytes p.tail q.tail [] out
+  pub gone : q.wal.gone ≡ p.wal.gone
   pub rest : q ≡ record p {
     blocks = q.tail.number;
     names = counted p.names store seq documents;

@@ -109,6 +109,7 @@ fn put_item(
     ensures grown { OnOk result (tail.new.number ≤ tail.old.number + 1024) }
     ensures room { OnOk result (spare ≤ wal.new.room) }
     ensures entries { wal.new.entries ≡ wal.old.entries }
+    ensures gone { wal.new.gone ≡ wal.old.gone }
     ensures memory { OnErr result (result ≡ Err Refusal.NoMemory) }
 {
     let rec = record_for(alloc, at.store, at.seq, item)?;
@@ -136,6 +137,7 @@ fn put_items(
     ensures put { IfOk result (λ pending. PutsAll revision at.store at.seq items.now pending.items tail.old tail.new out.old.items out.new.items) }
     ensures room { OnOk result (length items.now ≤ wal.new.room) }
     ensures entries { wal.new.entries ≡ wal.old.entries }
+    ensures gone { wal.new.gone ≡ wal.old.gone }
     ensures memory { OnErr result (result ≡ Err Refusal.NoMemory) }
 {
     let spare = items.len() as u64;
@@ -177,6 +179,7 @@ pub(crate) fn put_batch(
     ensures put { IfOk result (λ b. PutsAll revision at.store at.seq items.now b.pending.items tail.now b.tail [] b.out.items) }
     ensures room { OnOk result (length items.now ≤ wal.new.room) }
     ensures entries { wal.new.entries ≡ wal.old.entries }
+    ensures gone { wal.new.gone ≡ wal.old.gone }
     ensures memory { OnErr result ((result ≡ Err Refusal.NoMemory) ⊎ (2 ^ 32 < tail.now.number)) }
     ensures no_fault { result ≢ Err Refusal.DiskFault }
 {
@@ -229,6 +232,7 @@ fn enter_one(
 ) -> u64
     requires room { 1 ≤ wal.old.room }
     ensures entries { wal.new.entries ≡ finite.insert wal.old.entries (key_at store pending.room) pending.entry }
+    ensures gone { wal.new.gone ≡ wal.old.gone }
     ensures room { wal.new.room + 1 ≡ wal.old.room }
     ensures live { live.new ≡ live_known (finite.get wal.old.entries (key_at store pending.room)) pending.entry live.old }
     ensures documents { result ≡ documents_known (finite.get wal.old.entries (key_at store pending.room)) pending.entry documents }
@@ -249,6 +253,7 @@ fn enter_each(
 ) -> u64
     requires { length pending.items ≤ wal.old.room }
     ensures known { known_from wal.new.entries result live.new ≡ known_after store (known_from wal.old.entries documents live.old) pending.items }
+    ensures gone { wal.new.gone ≡ wal.old.gone }
 {
     let mut count = documents;
     for next in pending {
@@ -269,6 +274,7 @@ pub(crate) fn enter_batch<H: Host>(
     requires room { length pending.items ≤ parts.old.wal.room }
     requires place { parts.old.place + 1 < 2 ^ 62 }
     ensures entries { parts.new.wal.entries ≡ (known_after at.store (known_from parts.old.wal.entries documents parts.old.live) pending.items).entries }
+    ensures gone { parts.new.wal.gone ≡ parts.old.wal.gone }
     ensures rest { let known = known_after at.store (known_from parts.old.wal.entries documents parts.old.live) pending.items in
         held parts.new ≡ record (held parts.old) {
           blocks = tail.number;

@@ -11,7 +11,7 @@ ghost use Rattle.file_parts.specs.Keeping.{Keeps};
 use crate::batch_puts::{Batched, Drawn, enter_batch, put_batch};
 use crate::items::{any_wrong_body, any_wrong_key, items_len, misses_one};
 use block_host::Host;
-use file_parts::{Parts, grow_or_stop, is_full, is_later_worn, is_next_worn};
+use file_parts::{Parts, is_full, is_later_worn, is_next_worn, put_records};
 use forest_model::{Item, Refusal, StoreRef};
 use std::alloc::Global;
 
@@ -102,7 +102,7 @@ fn batch_free<H: Host>(
         },
         items,
     )?;
-    grow_or_stop(parts, out.as_slice())?;
+    put_records(parts, out.as_slice())?;
     let drawn = Drawn {
         store: at.store,
         seq: numbers.0 + items.len() as u64,

@@ -128,6 +128,7 @@ fn enter<H: Host>(parts: &mut Parts<H>, store: u64, room: Room, entry: Entry, do
     requires room { 1 ≤ parts.old.wal.room }
     requires place { parts.old.place + 1 < 2 ^ 62 }
     ensures entries { parts.new.wal.entries ≡ finite.insert parts.old.wal.entries (key_at store room) entry }
+    ensures gone { parts.new.wal.gone ≡ parts.old.wal.gone }
     ensures rest { held parts.new ≡ record (held parts.old) {
       blocks = parts.old.tail.number;
       names = counted parts.old.names store entry.seq (documents_after (finite.get parts.old.wal.entries (key_at store room)) documents);

@@ -8,8 +8,10 @@ use Rattle.block_host.specs.declared.failed.Failed.{Failed}
 use Rattle.forest_model.specs.declared.refusal.Refusal.{Refusal}
 use Rattle.forest_model.specs.declared.refusal.Refusal.TheVariants.{DiskFault}
 use Rattle.wal_index.specs.Index.{Index}
+use Rattle.file_parts.specs.Growing.{Grows}
 use Rattle.file_parts.specs.Moment.{Moment, Aside}
-use Rattle.file_parts.specs.Keeping.{Begins, Keeps}
+use Rattle.file_parts.specs.Keeping.{Begins, KeepsWith}
+use Rattle.file_parts.proofs.Growing.{grows_none, grows_as}
 
 pub begins_whole : (blocks : List Block) → Begins blocks blocks
 begins_whole blocks = record { long = omega arith; same = λ at within. refl }
@@ -27,14 +29,15 @@ appended_front file blocks result old new appends = record {
 }
 
 -- nothing is done
-pub keeps_none : {T : Type 0} (told : Bool) (m : Moment) (result : Result T Refusal) → result ≢ Err DiskFault → Keeps told m m result
-keeps_none told m result apart = record {
+pub keeps_none : {T : Type 0} (IsNew : Block → Type 0) (told : Bool) (m : Moment) (result : Result T Refusal) → result ≢ Err DiskFault → KeepsWith IsNew told m m result
+keeps_none IsNew told m result apart = record {
   aside = λ _. record { others = λ other e. refl; said = refl };
   front = λ _. begins_whole (m.disk.files m.held.revision);
+  crash = λ _. grows_none IsNew m.held.revision m.disk;
   clock = omega arith;
   counts = omega arith;
   untroubled = λ _. refl;
-  refused = λ _ _ _. record { held = refl; entries = refl; files = refl; file = refl };
+  refused = λ _ _ _. record { held = refl; entries = refl; gone = refl; files = refl; file = refl };
   halts = λ e. absurd (apart e);
   view_count = refl;
   opened = refl;
@@ -47,10 +50,11 @@ same_err : {T U : Type 0} (why other : Refusal) → ◌≡◌ {A = Result T Refu
 same_err {T} {U} why other e = let same : why ≡ other = cc in λ i. Err (same i)
 
 -- a refusal that is handed on
-pub keeps_on_err : {T U : Type 0} (told : Bool) (old new : Moment) (why : Refusal) (result : Result U Refusal) → Keeps {T = T} told old new (Err why) → result ≡ Err why → Keeps told old new result
-keeps_on_err {T} {U} told old new why result keeps is = subst (λ (r : Result U Refusal). Keeps told old new r) (sym is) (record {
+pub keeps_on_err : {T U : Type 0} (IsNew : Block → Type 0) (told : Bool) (old new : Moment) (why : Refusal) (result : Result U Refusal) → KeepsWith {T = T} IsNew told old new (Err why) → result ≡ Err why → KeepsWith IsNew told old new result
+keeps_on_err {T} {U} IsNew told old new why result keeps is = subst (λ (r : Result U Refusal). KeepsWith IsNew told old new r) (sym is) (record {
   aside = keeps.aside;
   front = keeps.front;
+  crash = keeps.crash;
   clock = keeps.clock;
   counts = keeps.counts;
   untroubled = λ apart. keeps.untroubled (λ e. apart (same_err why DiskFault e));
@@ -67,11 +71,12 @@ not_err : {T : Type 0} (value : T) (why : Refusal) → ◌≡◌ {A = Result T R
 not_err value why e = cc
 
 -- after a call that succeeded, memory alone is changed
-pub keeps_on_ok : {T U : Type 0} (told : Bool) (old mid new : Moment) (first : T) (value : U) → Keeps {T = T} told old mid (Ok first) → new.disk ≡ mid.disk → new.host_faults ≡ mid.host_faults → new.view_faults ≡ mid.view_faults
-    → new.opened ≡ mid.opened → new.damaged ≡ mid.damaged → new.held.floor ≡ mid.held.floor → new.held.left ≡ mid.held.left → Keeps {T = U} told old new (Ok value)
-keeps_on_ok told old mid new first value keeps disk host view opened damaged floor left = record {
+pub keeps_on_ok : {T U : Type 0} (IsNew : Block → Type 0) (told : Bool) (old mid new : Moment) (first : T) (value : U) → KeepsWith {T = T} IsNew told old mid (Ok first) → new.disk ≡ mid.disk → new.host_faults ≡ mid.host_faults → new.view_faults ≡ mid.view_faults
+    → new.opened ≡ mid.opened → new.damaged ≡ mid.damaged → new.held.floor ≡ mid.held.floor → new.held.left ≡ mid.held.left → KeepsWith {T = U} IsNew told old new (Ok value)
+keeps_on_ok IsNew told old mid new first value keeps disk host view opened damaged floor left = record {
   aside = λ t. subst (λ (d : Disk). Aside old.held.revision old.disk d) (sym disk) (keeps.aside t);
   front = λ t. subst (λ (d : Disk). Begins (old.disk.files old.held.revision) (d.files old.held.revision)) (sym disk) (keeps.front t);
+  crash = λ t. subst (λ (d : Disk). Grows IsNew old.held.revision old.disk d) (sym disk) (keeps.crash t);
   clock = subst (λ (d : Disk). old.disk.moment ≤ d.moment) (sym disk) keeps.clock;
   counts = subst (λ (n : ℕ). old.host_faults ≤ n) (sym host) keeps.counts;
   untroubled = λ _. host ∙ keeps.untroubled (not_err first DiskFault);
@@ -85,20 +90,40 @@ keeps_on_ok told old mid new first value keeps disk host view opened damaged flo
 }
 
 -- the index has room before
-pub keeps_roomy : {T : Type 0} (told : Bool) (old new : Moment) (w : Index) (result : Result T Refusal) → w.entries ≡ old.held.wal.entries
-    → Keeps told (record old { held = record (old.held) { wal = w } }) new result → Keeps told old new result
-keeps_roomy told old new w result same keeps = record {
+pub keeps_roomy : {T : Type 0} (IsNew : Block → Type 0) (told : Bool) (old new : Moment) (w : Index) (result : Result T Refusal) → w.entries ≡ old.held.wal.entries → w.gone ≡ old.held.wal.gone
+    → KeepsWith IsNew told (record old { held = record (old.held) { wal = w } }) new result → KeepsWith IsNew told old new result
+keeps_roomy IsNew told old new w result same same_gone keeps = record {
   aside = keeps.aside;
   front = keeps.front;
+  crash = keeps.crash;
   clock = keeps.clock;
   counts = keeps.counts;
   untroubled = keeps.untroubled;
   refused = λ why is apart.
       let only = keeps.refused why is apart in
-      record { held = only.held; entries = only.entries ∙ same; files = only.files; file = only.file };
+      record { held = only.held; entries = only.entries ∙ same; gone = only.gone ∙ same_gone; files = only.files; file = only.file };
   halts = λ is.
       let halts = keeps.halts is in
-      record { rises = halts.rises; held = halts.held; entries = halts.entries ∙ same; file = halts.file };
+      record { rises = halts.rises; held = halts.held; entries = halts.entries ∙ same; gone = halts.gone ∙ same_gone; file = halts.file };
+  view_count = keeps.view_count;
+  opened = keeps.opened;
+  damaged = keeps.damaged;
+  floor = keeps.floor;
+  left = keeps.left;
+}
+
+-- what is put is said less closely
+pub keeps_as : {T : Type 0} (IsNew IsOther : Block → Type 0) (told : Bool) (old new : Moment) (result : Result T Refusal) → ((block : Block) → IsNew block → IsOther block)
+    → KeepsWith IsNew told old new result → KeepsWith IsOther told old new result
+keeps_as IsNew IsOther told old new result implies keeps = record {
+  aside = keeps.aside;
+  front = keeps.front;
+  crash = λ t. grows_as IsNew IsOther old.held.revision old.disk new.disk implies (keeps.crash t);
+  clock = keeps.clock;
+  counts = keeps.counts;
+  untroubled = keeps.untroubled;
+  refused = keeps.refused;
+  halts = keeps.halts;
   view_count = keeps.view_count;
   opened = keeps.opened;
   damaged = keeps.damaged;

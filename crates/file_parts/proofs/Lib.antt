@@ -1,4 +1,5 @@
 pub mod Lookups
 pub mod Finds
 pub mod Puts
+pub mod Growing
 pub mod Keeping

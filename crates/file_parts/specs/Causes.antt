@@ -28,5 +28,6 @@ full_cause p needed = FileFull p.blocks needed p.limits.max_blocks where_holds n
 pub record OnlyMemory (old new : Moment) : Type 0 where
   pub held : new.held ≡ record old.held { wal = new.held.wal }
   pub entries : new.held.wal.entries ≡ old.held.wal.entries
+  pub gone : new.held.wal.gone ≡ old.held.wal.gone
   pub files : new.disk.files ≡ old.disk.files
   pub file : new.file ≡ old.file

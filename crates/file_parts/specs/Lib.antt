@@ -3,4 +3,5 @@ pub mod Moment
 pub mod Lookup
 pub mod Causes
 pub mod Records
+pub mod Growing
 pub mod Keeping

@@ -13,4 +13,6 @@ mod writes;
 pub use parts::Parts;
 pub use reads::{entry_of_key, entry_of_number, find_record, info_of, is_wrong_key};
 pub use records::{advance, append, record_of};
-pub use writes::{MOST_BLOCKS, grow_or_stop, is_full, is_later_worn, is_next_worn, is_worn};
+pub use writes::{
+    MOST_BLOCKS, grow_or_stop, is_full, is_later_worn, is_next_worn, is_worn, put_records,
+};

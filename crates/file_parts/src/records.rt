@@ -8,7 +8,7 @@ ghost use Rattle.file_parts.specs.Records.{PutsRecord, NotPut};
 ghost use Rattle.forest_model.specs.declared.refusal.Refusal.TheVariants as Refusal;
 
 use crate::Parts;
-use crate::writes::{MOST_BLOCKS, grow_or_stop};
+use crate::writes::{MOST_BLOCKS, put_records};
 use block_host::Host;
 use forest_model::{Bytes, Rec, Refusal};
 use std::alloc::Global;
@@ -62,7 +62,7 @@ pub fn append<H: Host>(
     }
     let mut out = Vec::new(alloc);
     let address = parts.tail.put(rec, parts.revision, &mut out)?;
-    grow_or_stop(parts, out.as_slice())?;
+    put_records(parts, out.as_slice())?;
     Ok(address)
 }
 

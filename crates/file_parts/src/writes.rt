@@ -4,7 +4,8 @@ ghost use Rattle.forest_model.specs.Limits.{is_worn};
 ghost use Rattle.forest_model.specs.declared.refusal.Refusal.TheVariants as Refusal;
 ghost use Rattle.file_parts.specs.Held.{held};
 ghost use Rattle.file_parts.specs.Moment.{Aside, moment};
-ghost use Rattle.file_parts.specs.Keeping.{Begins, Keeps};
+ghost use Rattle.file_parts.specs.Growing.{AreNoHeaders, Grows, IsAmong};
+ghost use Rattle.file_parts.specs.Keeping.{Begins, Keeps, KeepsWith};
 
 use crate::Parts;
 use block_host::{Block, Failed, Host};
@@ -50,6 +51,19 @@ pub fn is_full(blocks: u64, needed: u64, max: u64) -> bool
     max < 2 || is_over(blocks, needed, max - 2)
 }
 
+/// Puts blocks of records at the end of the current file and sets the view on it; without any, neither is asked. A host that
+/// fails stops the file.
+pub fn put_records<H: Host>(parts: &mut Parts<H>, blocks: &[Block]) -> Result<(), Refusal>
+    requires no_headers { AreNoHeaders blocks.now }
+    ensures files { IsTrue H.tells → OnOk result ((H.disk parts.new.host).files parts.old.revision ≡ (H.disk parts.old.host).files parts.old.revision ++ blocks.now) }
+    ensures shown { IsTrue H.tells → OnOk result (H.View.content parts.old.view ≡ (H.disk parts.old.host).files parts.old.revision → H.View.content parts.new.view ≡ (H.disk parts.new.host).files parts.old.revision) }
+    ensures kept { OnOk result (held parts.new ≡ held parts.old) }
+    ensures stops { OnErr result ((result ≡ Err Refusal.DiskFault) × (held parts.new ≡ record (held parts.old) { stopped = Some (H.faults parts.new.host) })) }
+    ensures keeps { Keeps H.tells (moment parts.old) (moment parts.new) result }
+{
+    grow_or_stop(parts, blocks)
+}
+
 /// Puts blocks at the end of the current file and sets the view on it; without any, neither is asked. A host that fails
 /// stops the file.
 pub fn grow_or_stop<H: Host>(parts: &mut Parts<H>, blocks: &[Block]) -> Result<(), Refusal>
@@ -57,7 +71,7 @@ pub fn grow_or_stop<H: Host>(parts: &mut Parts<H>, blocks: &[Block]) -> Result<(
     ensures shown { IsTrue H.tells → OnOk result (H.View.content parts.old.view ≡ (H.disk parts.old.host).files parts.old.revision → H.View.content parts.new.view ≡ (H.disk parts.new.host).files parts.old.revision) }
     ensures kept { OnOk result (held parts.new ≡ held parts.old) }
     ensures stops { OnErr result ((result ≡ Err Refusal.DiskFault) × (held parts.new ≡ record (held parts.old) { stopped = Some (H.faults parts.new.host) })) }
-    ensures keeps { Keeps H.tells (moment parts.old) (moment parts.new) result }
+    ensures keeps { KeepsWith (IsAmong blocks.now) H.tells (moment parts.old) (moment parts.new) result }
 {
     match grow(&mut parts.host, &mut parts.view, parts.revision, blocks) {
         Ok(()) => Ok(()),
@@ -81,6 +95,7 @@ fn grow<H: Host>(
     ensures kept { IsTrue H.tells → OnErr result (H.View.content view.new ≡ H.View.content view.old) }
     ensures aside { IsTrue H.tells → Aside file (H.disk host.old) (H.disk host.new) }
     ensures front { IsTrue H.tells → Begins ((H.disk host.old).files file) ((H.disk host.new).files file) }
+    ensures crash { IsTrue H.tells → Grows (IsAmong blocks.now) file (H.disk host.old) (H.disk host.new) }
     ensures failed { OnErr result (risen (H.faults host.old) ≤ H.faults host.new) }
     ensures clock { (H.disk host.old).moment ≤ (H.disk host.new).moment }
     ensures counts { H.faults host.old ≤ H.faults host.new }
@@ -99,6 +114,7 @@ fn put_at_end<H: Host>(host: &mut H, file: u64, blocks: &[Block]) -> Result<(), 
     ensures files { IsTrue H.tells → OnOk result ((H.disk host.new).files file ≡ (H.disk host.old).files file ++ blocks.now) }
     ensures aside { IsTrue H.tells → Aside file (H.disk host.old) (H.disk host.new) }
     ensures front { IsTrue H.tells → Begins ((H.disk host.old).files file) ((H.disk host.new).files file) }
+    ensures crash { IsTrue H.tells → Grows (IsAmong blocks.now) file (H.disk host.old) (H.disk host.new) }
     ensures failed { OnErr result (risen (H.faults host.old) ≤ H.faults host.new) }
     ensures clock { (H.disk host.old).moment ≤ (H.disk host.new).moment }
     ensures counts { H.faults host.old ≤ H.faults host.new }

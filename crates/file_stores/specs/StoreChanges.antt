@@ -1,5 +1,5 @@
 -- Why a store isn't opened or removed, and what is left in memory, by what an open file has there.
-use Rattle.std.specs.Prelude.{◌≡◌, ℕ, ◌+◌, ◌^◌, Bool, false, not, ◌||◌, ◌==◌, ◌-◌, min, codes, nat_eq, List, [], ◌∷◌, length, Option, Some, None, is_none, nat_le, MatchOption, MatchResult, Result, Ok, Err}
+use Rattle.std.specs.Prelude.{◌≡◌, ℕ, ◌+◌, ◌^◌, Bool, false, not, ◌||◌, ◌==◌, ◌-◌, min, codes, nat_eq, List, [], ◌∷◌, ◌++◌, length, Option, Some, None, is_none, nat_le, MatchOption, MatchResult, Result, Ok, Err}
 use Rattle.std.specs.Cmp.Lexicographic.{pointwise}
 use Rattle.std.specs.FinMap as finite
 use Rattle.std.specs.Option.{option_map, option_map_or}
@@ -82,6 +82,7 @@ remove_causes p at name =
 pub record RemovesStore (told : Bool) (id : ℕ) (old new : Moment) : Type 0 where
   pub puts : PutsRecord told (gone_of id) old new
   pub entries : new.held.wal.entries ≡ finite.retain_keys old.held.wal.entries (λ k. not (k.store == id))
+  pub gone : new.held.wal.gone ≡ old.held.wal.gone ++ id ∷ []
   pub names : first_cause (why_not_removed old.held.names id) ≡ None → new.held.names ≡ without old.held.names id
   pub rest : new.held ≡ record old.held {
     blocks = new.held.tail.number;

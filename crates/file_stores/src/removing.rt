@@ -1,4 +1,4 @@
-ghost use Rattle.std.specs.Prelude.{◌≡◌, ◌≢◌, ◌<◌, ◌+◌, ◌-◌, ◌^◌, ◌==◌, not, length, true, None, Some, Err, IfOk, OnOk};
+ghost use Rattle.std.specs.Prelude.{◌≡◌, ◌≢◌, ◌<◌, ◌+◌, ◌-◌, ◌^◌, ◌==◌, ◌++◌, ◌∷◌, [], not, length, true, None, Some, Err, IfOk, OnOk};
 ghost use Rattle.std.specs.FinMap as finite;
 ghost use Rattle.std.specs.Result.{result_err};
 ghost use Rattle.file_parts.specs.Held.{held};
@@ -82,6 +82,7 @@ fn forget<H: Host>(parts: &mut Parts<H>, id: u64, live: u64)
     requires place { parts.old.place + 1 < 2 ^ 62 }
     requires may_go { parts.old.wal.may_go ≡ true }
     ensures entries { parts.new.wal.entries ≡ finite.retain_keys parts.old.wal.entries (λ k. not (k.store == id)) }
+    ensures gone { parts.new.wal.gone ≡ parts.old.wal.gone ++ id ∷ [] }
     ensures names { first_cause (why_not_removed parts.old.names id) ≡ None → parts.new.names ≡ without parts.old.names id }
     ensures rest { held parts.new ≡ record (held parts.old) {
       blocks = parts.old.tail.number;

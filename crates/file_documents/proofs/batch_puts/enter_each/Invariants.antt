@@ -9,4 +9,5 @@ invariant-loop-next l = record {
   room : length (into_iter_items l.next-iterator) ≤ l.wal.room;
   known : known_after l.store (known_from l.wal.entries l.count l.live) (into_iter_items l.next-iterator)
       ≡ known_after l.store (known_from l.fn.wal.entries l.documents l.fn.live) l.fn.pending.items;
+  gone : l.wal.gone ≡ l.fn.wal.gone;
 }

@@ -20,6 +20,7 @@ loop-item-preserved c =
       low = omega (arith, c.in_ok-next.ensures.grown);
       room = λ _. c.in_ok-next.ensures.room;
       entries = c.put_item.ensures.entries ∙ c.loop-item.invariant.entries;
+      gone = c.put_item.ensures.gone ∙ c.loop-item.invariant.gone;
     }
 
 pub returns-clause-put : goal.returns-clause-put

@@ -9,4 +9,5 @@ invariant-loop-item l = record {
   low : l.tail.number ≤ 2 ^ 32 + 1024 * l.item-index;
   room : 0 < l.item-index → length l.items ≤ l.wal.room;
   entries : l.wal.entries ≡ l.fn.wal.entries;
+  gone : l.wal.gone ≡ l.fn.wal.gone;
 }

@@ -23,7 +23,7 @@ returns-clause-gives g c =
           (moment c.args.parts.now)
           (moment c.append.new.parts)
           (moment c.enter.new.parts)
-          c.room.new.self c.in_ok-room.room c.in_ok-rec.rec e c.args.numbers.1 c.room.ensures.entries c.in_ok-room.ensures.key rec_is (search rules) e_is c.requires.documents
+          c.room.new.self c.in_ok-room.room c.in_ok-rec.rec e c.args.numbers.1 c.room.ensures.entries c.room.ensures.gone c.in_ok-room.ensures.key rec_is (search rules) e_is c.requires.documents
           c.in_ok-address.ensures.puts c.in_ok-address.ensures.rest (ap g.H.Host.disk c.enter.ensures.outside.host) (ap g.H.View.View.content c.enter.ensures.outside.view)
-          c.enter.ensures.entries c.enter.ensures.rest,
+          c.enter.ensures.entries c.enter.ensures.gone c.enter.ensures.rest,
     )

@@ -12,5 +12,5 @@ returns-clause-gives g c = (
       (moment c.forget.new.parts)
       c.reserve_gone.new.self c.live_of-live.result c.in_ok-rec.rec c.in_ok-reserve_gone.ensures.may_go c.in_ok-rec.ensures.record
       c.in_ok-append.ensures.puts c.in_ok-append.ensures.rest (ap g.H.Host.disk c.forget.ensures.outside.host) (ap g.H.View.View.content c.forget.ensures.outside.view)
-      c.forget.ensures.entries c.forget.ensures.names c.forget.ensures.rest c.live_of-live.ensures,
+      c.forget.ensures.entries c.forget.ensures.gone c.forget.ensures.names c.forget.ensures.rest c.live_of-live.ensures,
 )
