@@ -3,7 +3,7 @@ ghost use Rattle.block_host.specs.Disk.{risen};
 ghost use Rattle.block_host.specs.Order.{IsSettled};
 ghost use Rattle.file_parts.specs.Keeping.{Begins};
 ghost use Rattle.file_parts.specs.Moment.{Aside};
-ghost use Rattle.file_commit.specs.Committing.{listed};
+ghost use Rattle.file_core.specs.Updates.{listed};
 
 use block_host::{Block, Failed, Host};
 

@@ -2,7 +2,7 @@ use Rattle.std.proofs.Common.{sym, ap, ◌∙◌}
 use Rattle.forest_model.specs.declared.stored.Header.{Header}
 use Rattle.file_parts.specs.Held.{held}
 use Rattle.file_commit.specs.Committing.{header_after}
-use Rattle.file_commit.proofs.Padded.{opened, padded_number, near_end, entered, tells_of}
+use Rattle.file_commit.proofs.Padded.{opened, padded_number, near_end, entered, tells_of, sealed_of}
 use Rattle.file_commit.proofs.committing.commit_new.Goals as goal
 
 pub returns-in-Ok-clause-gives : goal.returns-in-Ok-clause-gives
@@ -14,7 +14,8 @@ returns-in-Ok-clause-gives g c =
         block = c.pad-block.result;
         header = c.sealed_header-sealed.result;
         open_block = opened c.args.parts.now.revision c.args.parts.now.tail c.pad-block.new.self c.pad-block.result c.pad-block.ensures;
-        tells = tells_of c.next_header-header.result (header_after p) c.sealed_header-sealed.result.bytes c.next_header-header.ensures.header c.sealed_header-sealed.ensures;
+        is_sealed = sealed_of c.args.parts.now.revision c.number-at.result _ c.next_header-header.result (header_after p) c.sealed_header-sealed.result at_is c.next_header-header.ensures.header c.sealed_header-sealed.ensures.is_sealed;
+        tells = tells_of c.next_header-header.result (header_after p) c.sealed_header-sealed.result.bytes c.next_header-header.ensures.header c.sealed_header-sealed.ensures.tells;
         held = entered p (held c.enter.new.parts) c.next_header-header.result c.number-at.result _ c.enter.ensures.held c.next_header-header.ensures.header at_is;
         files = λ t. ap (λ h. (g.H.Host.disk h).files c.args.parts.now.revision) c.enter.ensures.outside.host ∙ c.in-Ok.ensures.files t;
         shown = λ t. ap g.H.View.View.content c.enter.ensures.outside.view ∙ c.in-Ok.ensures.shown t ∙ sym (ap (λ h. (g.H.Host.disk h).files c.args.parts.now.revision) c.enter.ensures.outside.host);
