@@ -7,3 +7,4 @@ pub mod Grown
 pub mod CommitStands
 pub mod Commits
 pub mod Fronts
+pub mod Leaving
