@@ -10,9 +10,9 @@ use Rattle.block_host.specs.declared.block.Block.{Block}
 use Rattle.doc_stream.specs.OpenBlock.{OpenBlock}
 use Rattle.doc_stream.specs.Reading.{RecordAt}
 use Rattle.doc_stream.specs.Scanned.{IsScanned}
-use Rattle.forest_model.specs.Blocks.{File}
+use Rattle.forest_model.specs.Blocks.{File, last_header}
 use Rattle.forest_model.specs.Documents.{Map, doc_at}
-use Rattle.forest_model.specs.Run.{FileAfter, AddsCommit, Grows, link_to}
+use Rattle.forest_model.specs.Run.{FileAfter, AddsCommit, Grows, link_to, unflushed_from}
 use Rattle.forest_model.specs.State.{IsState, nothing_new}
 use Rattle.forest_model.specs.Step.{Outcome, committed, step_of}
 use Rattle.forest_model.specs.Stores.{store_of}
@@ -24,16 +24,17 @@ use Rattle.forest_model.specs.declared.documents.Doc.{Doc}
 use Rattle.forest_model.specs.declared.state.State.{State}
 use Rattle.forest_model.specs.declared.state.Store.{Store}
 use Rattle.forest_model.specs.declared.stored.Entry.{Entry}
+use Rattle.forest_model.specs.declared.stored.Header.{Header}
 use Rattle.forest_model.specs.declared.stored.Rec.{Rec}
+use Rattle.header_block.specs.Layout.{header_bytes}
 use Rattle.model_laws.specs.Laws.{RulesStay, NothingNewMeans}
 use Rattle.file_parts.specs.Held.{Held}
 use Rattle.file_core.specs.Recorded.{IsRecorded}
-use Rattle.header_block.specs.Layout.{header_bytes}
 use Rattle.file_core.specs.Stands.{Stands, AreDocuments, HasDocument, IsKept, SameAtSameNumber}
 use Rattle.file_documents.specs.Setting.{put_of}
 use Rattle.file_parts.specs.Moment.{Moment}
-use Rattle.file_core.specs.Updates.{StandsAt, IsFile, bytes_of}
-use Rattle.file_commit.specs.Committing.{listed, IsOpenBlock, CommitsFile, header_after, held_after}
+use Rattle.file_core.specs.Updates.{StandsAt, IsFile, PutsHeader, bytes_of, header_of, IsOpenBlock, listed}
+use Rattle.file_commit.specs.Committing.{CommitsFile, header_after, held_after}
 use Rattle.file_commit.proofs.Recorded.{PadScans, PassScans, commit_scanned, none_behind}
 use Rattle.file_commit.proofs.Grown.{length-bytes_of, bytes-append, open_records, open_whole, open_count, Grown, grown_is, adds}
 
@@ -144,7 +145,7 @@ module _ (rules : RulesStay) (means : NothingNewMeans) (pads : PadsKeep) (blocks
         records = was.records;
         scanned =
             subst (λ (bs : List Block). IsScanned old.held.revision bs (record { number = end_at + 1; bytes = [] }) old.held.header.wal_from was.records) (sym (grown t))
-            (commit_scanned pad_scans pass_scans old.held.revision old.file old.held.tail old.held.header.wal_from was.records commits.block commits.header (header_bytes (header_after old.held)) commits.open_block commits.sealed was.scanned);
+            (commit_scanned pad_scans pass_scans old.held.revision old.file old.held.tail old.held.header.wal_from was.records commits.block commits.header (header_bytes (header_after old.held)) commits.open_block commits.is_sealed was.scanned);
         made = was.made;
         recent = [];
         behind = none_behind old.held.revision new.file (record { number = end_at + 1; bytes = [] }) (end_at + 1) refl (sym (size_now t)) (sym (size_now t));
@@ -215,3 +216,33 @@ module _ (rules : RulesStay) (means : NothingNewMeans) (pads : PadsKeep) (blocks
     header = last.last ∙ ap Some (let e : length f + length (bytes_of records) ≡ end_at = omega (arith, length-bytes_of records, was.long, stands.at_end) in e);
     from = last.from ∙ commits.tells.from;
   })
+
+  -- ---- the header
+
+  header_is : header_after old.held ≡ header_of (committed s) f
+  header_is =
+      let link : Some old.held.header_at ≡ last_header f = sym was.header in
+      let from : old.held.header.wal_from ≡ unflushed_from f = sym was.from in
+      λ i. record {
+        commit = stands.next_commit i;
+        next_commit = stands.next_commit i + 1;
+        previous = link i;
+        key = None;
+        seq = None;
+        wal_from = from i;
+        live = stands.live i;
+        next_store = stands.next_store i;
+        stores = stands.rows i;
+      }
+
+  pub puts_header : IsTrue told → PutsHeader (header_of (committed s) f) old new
+  puts_header t =
+      let end_is : end_at ≡ length (old.disk.files old.held.revision) + length records = ap (λ n. n + length records) (is_end t ∙ ap length (stands.shown t)) in
+      record {
+        block = commits.block;
+        header = commits.header;
+        open_block = commits.open_block;
+        files = commits.files t;
+        is_sealed = subst (λ (n : ℕ). IsSealed old.held.revision n 4 (header_bytes (header_of (committed s) f)) commits.header) end_is
+            (subst (λ (h : Header). IsSealed old.held.revision end_at 4 (header_bytes h) commits.header) header_is commits.is_sealed);
+      }

@@ -19,12 +19,12 @@ use Rattle.model_laws.specs.Laws.{RulesStay, NothingNewMeans}
 use Rattle.file_parts.specs.Held.{Held}
 use Rattle.file_core.specs.Stands.{Stands}
 use Rattle.file_parts.specs.Moment.{Moment}
-use Rattle.file_core.specs.Updates.{StandsAt, IsFile, CommitsAs}
+use Rattle.file_core.specs.Updates.{StandsAt, IsFile, CommitsAs, PutsHeader, header_of}
 use Rattle.file_commit.specs.Committing.{is_commit_worn, is_far, Stays, CommitGives, CommitAnswers}
 use Rattle.file_commit.proofs.Headers.{header-below}
 use Rattle.file_commit.proofs.NothingNew.{nothing_is}
 use Rattle.file_commit.proofs.Recorded.{PadScans, PassScans}
-use Rattle.file_commit.proofs.CommitStands.{PadsKeep, BlocksKeep, file_after, commit_stands, commit_grows, commit_file}
+use Rattle.file_commit.proofs.CommitStands.{PadsKeep, BlocksKeep, file_after, commit_stands, commit_grows, commit_file, puts_header}
 
 -- ---- the step of a commit, by its tests
 
@@ -97,12 +97,13 @@ module _ (told : Bool) (at : StoreRef) (old new : Moment) (s : State) (f : File)
   refuses : (why : Refusal) (result : Result ℕ Refusal) → step_of s f (calls.Commit at) ≡ (Refused why, s) → result ≡ Err why → Stays old new → CommitsAs told s f at old new result
   refuses why result step is same = subst (λ (r : Result ℕ Refusal). CommitsAs told s f at old new r) (sym is) (record {
     done = tt;
+    puts = tt;
     refused = λ other h. ap Err (same_refusal why other (sym (ap (λ (o : Outcome). o.0) step) ∙ h));
     reason = inl (ap (λ (o : Outcome). o.0) step, kept_stands same, kept_file same);
   })
 
-  leaves : (result : Result ℕ Refusal) → step_of s f (calls.Commit at) ≡ (Committed s.last.number, s) → result ≡ Ok old.held.header.commit → Stays old new → CommitsAs told s f at old new result
-  leaves result step is same = subst (λ (r : Result ℕ Refusal). CommitsAs told s f at old new r) (sym is) (record {
+  leaves : (result : Result ℕ Refusal) → nothing_new s ≡ true → step_of s f (calls.Commit at) ≡ (Committed s.last.number, s) → result ≡ Ok old.held.header.commit → Stays old new → CommitsAs told s f at old new result
+  leaves result none_new step is same = subst (λ (r : Result ℕ Refusal). CommitsAs told s f at old new r) (sym is) (record {
     done = (
       ap (λ (o : Outcome). o.0) step ∙ ap Committed (sym stands.commit),
       subst (λ (o : Outcome). StandsAt told new o.1) (sym step) (kept_stands same),
@@ -112,6 +113,7 @@ module _ (told : Bool) (at : StoreRef) (old new : Moment) (s : State) (f : File)
         kept_file same,
       ),
     );
+    puts = λ _ news. absurd (let both : true ≡ false = sym none_new ∙ news in cc);
     refused = λ other h. absurd (no_refusal _ other (sym (ap (λ (o : Outcome). o.0) step) ∙ h));
     reason = tt;
   })
@@ -130,11 +132,13 @@ module _ (told : Bool) (at : StoreRef) (old new : Moment) (s : State) (f : File)
           commit_file rules means pads blocks pad_scans pass_scans told at old new s f stands was news step given.1,
         ),
       );
+      puts = λ t _. subst (λ (o : Outcome). PutsHeader (header_of o.1 f) old new) (sym step) (puts_header rules means pads blocks pad_scans pass_scans told at old new s f stands was news step given.1 t);
       refused = λ other h. absurd (no_refusal _ other (sym (ap (λ (o : Outcome). o.0) step) ∙ h));
       reason = tt;
     }
     gives (Err why) news step given = record {
       done = tt;
+      puts = tt;
       refused = λ other h. absurd (no_refusal _ other (sym (ap (λ (o : Outcome). o.0) step) ∙ h));
       reason = inr (given.0, inl given.1);
     }
@@ -153,7 +157,7 @@ module _ (told : Bool) (at : StoreRef) (old new : Moment) (s : State) (f : File)
 
     by_same : (result : Result ℕ Refusal) (same worn : Bool) → nothing_new s ≡ same → step_of s f (calls.Commit at) ≡ outcome s false same worn
         → MatchBool same ((result ≡ Ok old.held.header.commit) × Stays old new) (MatchBool (worn || false) ((result ≡ Err Worn) × Stays old new) (CommitGives told old new result)) → CommitsAs told s f at old new result
-    by_same result true worn is step h = leaves result step h.0 h.1
+    by_same result true worn is step h = leaves result is step h.0 h.1
     by_same result false worn is step h = by_worn result worn is step h
 
     by_read_only : (result : Result ℕ Refusal) (read_only same worn : Bool) → nothing_new s ≡ same → step_of s f (calls.Commit at) ≡ outcome s read_only same worn

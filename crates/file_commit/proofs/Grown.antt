@@ -13,8 +13,8 @@ use Rattle.forest_model.specs.Blocks.{File, block_at, last_header, is_block, is_
 use Rattle.forest_model.specs.Run.{AddsCommit, link_to, unflushed_from}
 use Rattle.forest_model.specs.declared.state.State.{State}
 use Rattle.forest_model.specs.declared.stored.Header.{Header}
-use Rattle.file_core.specs.Updates.{bytes_of}
-use Rattle.file_commit.specs.Committing.{IsOpenBlock, listed, TellsHeader}
+use Rattle.file_core.specs.Updates.{bytes_of, IsOpenBlock, listed}
+use Rattle.file_commit.specs.Committing.{TellsHeader}
 use Rattle.file_commit.proofs.Headers.{last-new, block-new}
 
 pub length-bytes_of : (blocks : List Block) → length (bytes_of blocks) ≡ length blocks

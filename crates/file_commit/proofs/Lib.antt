@@ -8,3 +8,4 @@ pub mod Recorded
 pub mod CommitStands
 pub mod Commits
 pub mod Fronts
+pub mod Leaving

@@ -8,7 +8,8 @@ use Rattle.doc_stream.specs.OpenBlock.{OpenBlock}
 use Rattle.forest_model.specs.declared.stored.Header.{Header}
 use Rattle.header_block.specs.Layout.{header_bytes}
 use Rattle.file_parts.specs.Held.{Held}
-use Rattle.file_commit.specs.Committing.{IsOpenBlock, listed, header_after, held_after, TellsHeader}
+use Rattle.file_core.specs.Updates.{IsOpenBlock, listed}
+use Rattle.file_commit.specs.Committing.{header_after, held_after, TellsHeader}
 
 -- what padding tells of the block that comes out of it
 abbrev pub Pads : ℕ → OpenBlock → OpenBlock → Option Block → Type 0
@@ -47,6 +48,6 @@ entered p q h at number is header_is at_is =
 pub tells_of : (h i : Header) (bytes : List ℕ) → h ≡ i → TellsHeader h bytes → TellsHeader i bytes
 tells_of h i bytes is tells = subst (λ (x : Header). TellsHeader x bytes) is tells
 
-pub sealed_as : (revision at number : ℕ) (h i : Header) (block : Block) → at ≡ number → h ≡ i → IsSealed revision at 4 (header_bytes h) block → IsSealed revision number 4 (header_bytes i) block
-sealed_as revision at number h i block same is sealed =
-    subst (λ (n : ℕ). IsSealed revision n 4 (header_bytes i) block) same (subst (λ (x : Header). IsSealed revision at 4 (header_bytes x) block) is sealed)
+pub sealed_of : (revision at number : ℕ) (h i : Header) (block : Block) → at ≡ number → h ≡ i → IsSealed revision at 4 (header_bytes h) block → IsSealed revision number 4 (header_bytes i) block
+sealed_of revision at number h i block at_is is sealed =
+    subst (λ (x : Header). IsSealed revision number 4 (header_bytes x) block) is (subst (λ (n : ℕ). IsSealed revision n 4 (header_bytes h) block) at_is sealed)

@@ -1,11 +1,9 @@
 -- What a commit does, by what an open file has in memory.
-use Rattle.std.specs.Prelude.{◌≡◌, ◌≢◌, ℕ, ◌+◌, ◌^◌, ◌≤◌, Bool, ◌&&◌, ◌||◌, ◌==◌, IsTrue, List, [], ◌∷◌, ◌++◌, length, Option, Some, None, nat_eq, nat_lt, MatchBool, MatchOption, MatchResult, Result, Ok, Err}
-use Rattle.std.specs.Option.{option_map_or}
+use Rattle.std.specs.Prelude.{◌≡◌, ℕ, ◌+◌, ◌^◌, ◌≤◌, Bool, ◌&&◌, ◌||◌, ◌==◌, IsTrue, List, [], ◌∷◌, ◌++◌, length, Option, Some, None, nat_eq, nat_lt, MatchBool, MatchResult, Result, Ok, Err}
 use Rattle.std.specs.Cmp.Lexicographic.{pointwise}
 use Rattle.block_host.specs.Disk.{risen}
 use Rattle.block_host.specs.Sealed.{IsSealed}
 use Rattle.block_host.specs.declared.block.Block.{Block}
-use Rattle.doc_stream.specs.OpenBlock.{OpenBlock}
 use Rattle.forest_model.specs.Blocks.{is_block, is_header, commit_number, previous_link, wal_from}
 use Rattle.forest_model.specs.Limits.{any_worn}
 use Rattle.forest_model.specs.Run.{link_to}
@@ -17,6 +15,7 @@ use Rattle.forest_model.specs.declared.stored.Header.{Header}
 use Rattle.header_block.specs.Layout.{header_bytes}
 use Rattle.file_parts.specs.Held.{Held}
 use Rattle.file_parts.specs.Moment.{Moment}
+use Rattle.file_core.specs.Updates.{IsOpenBlock, listed}
 
 -- the same store at the same sequence number
 abbrev pub is_same_row : StoreRow → StoreRow → Bool
@@ -55,13 +54,6 @@ pub record TellsHeader (h : Header) (bytes : List ℕ) : Type 0 where
   pub link : previous_link bytes ≡ link_to h.previous
   pub from : wal_from bytes ≡ h.wal_from
 
--- the open block as a block of the file, where it has bytes
-abbrev pub IsOpenBlock : ℕ → OpenBlock → Option Block → Type 0
-IsOpenBlock revision tail block = MatchOption block (tail.bytes ≡ []) (λ b. (tail.bytes ≢ []) × IsSealed revision tail.number 1 tail.bytes b)
-
-abbrev pub listed : Option Block → List Block
-listed block = option_map_or (λ b. b ∷ []) block []
-
 -- what is in memory once a header stands in this block
 abbrev pub held_after : Held → ℕ → Held
 held_after p at = record p {
@@ -74,13 +66,13 @@ held_after p at = record p {
   next_commit = p.next_commit + 1;
 }
 
--- What a commit leaves: the open block, where it has bytes, and the header behind it.
+-- What a commit leaves: the open block, where it has bytes, and behind it the header, with exactly its bytes.
 pub record CommitsFile (told : Bool) (old new : Moment) : Type 0 where
   pub block : Option Block
   pub header : Block
   pub open_block : IsOpenBlock old.held.revision old.held.tail block
+  pub is_sealed : IsSealed old.held.revision (old.held.tail.number + length (listed block)) 4 (header_bytes (header_after old.held)) header
   pub tells : TellsHeader (header_after old.held) header.bytes
-  pub sealed : IsSealed old.held.revision (old.held.tail.number + length (listed block)) 4 (header_bytes (header_after old.held)) header
   pub held : new.held ≡ held_after old.held (old.held.tail.number + length (listed block))
   pub files : IsTrue told → new.disk.files old.held.revision ≡ old.disk.files old.held.revision ++ listed block ++ header ∷ []
   pub shown : IsTrue told → new.file ≡ new.disk.files old.held.revision

@@ -6,6 +6,7 @@ ghost use Rattle.file_parts.specs.Moment.{moment};
 ghost use Rattle.file_parts.specs.Growing.{IsAny};
 ghost use Rattle.file_parts.specs.Keeping.{KeepsWith, Outside, StaysStopped};
 ghost use Rattle.file_commit.specs.Committing.{is_commit_worn, is_far, CommitAnswers, CommitGives};
+ghost use Rattle.file_commit.specs.Ordered.{Ordered};
 
 use crate::disk::put_commit;
 use crate::header::{next_header, sealed_header};
@@ -23,14 +24,16 @@ const FIRST_WORN: u64 = (1 << 62) - 1;
 const MOST_BLOCKS: u64 = 1 << 40;
 
 /// Commits what is new: the open block, if it has bytes, and once that is on the disk the header of the commit. Answers the
-/// commit's number, that of the last one where nothing is new. Once it has put a header, a crash leaves of the file only
-/// what reads give. Refused are a file that has stopped, a reference for reading and a worn number, in this order; then a
-/// host that fails, which stops the file. It takes no memory, and is never refused for want of room.
+/// commit's number, that of the last one where nothing is new. A crash at any moment leaves the header only behind all
+/// records and, once it is put, of the file only what reads give. Refused are a file that has stopped, a reference for
+/// reading and a worn number, in this order; then a host that fails, which stops the file. It takes no memory, and is never
+/// refused for want of room.
 pub fn commit<H: Host>(file: &mut FileState<H>, at: &StoreRef) -> Result<u64, Refusal>
     ensures commits { Commits H.tells at.now (moment file.old.parts) (moment file.new.parts) result }
     ensures stopped { StaysStopped file.old.parts file.new.parts result }
     ensures settled { IsTrue H.tells → OnOk result ((file.new.parts.place ≡ file.old.parts.place) ⊎ IsSettled file.old.parts.revision (H.disk file.new.parts.host)) }
     ensures keeps { KeepsWith IsAny H.tells (moment file.old.parts) (moment file.new.parts) result }
+    ensures ordered { IsTrue H.tells → Ordered (moment file.old.parts) (moment file.new.parts) }
 {
     rules();
     nothing_new();
@@ -49,6 +52,7 @@ fn commit_in<H: Host>(parts: &mut Parts<H>, at: &StoreRef) -> Result<u64, Refusa
     ensures answers { CommitAnswers H.tells at.now (moment parts.old) (moment parts.new) result }
     ensures settled { IsTrue H.tells → OnOk result ((parts.new.place ≡ parts.old.place) ⊎ IsSettled parts.old.revision (H.disk parts.new.host)) }
     ensures keeps { KeepsWith IsAny H.tells (moment parts.old) (moment parts.new) result }
+    ensures ordered { IsTrue H.tells → Ordered (moment parts.old) (moment parts.new) }
 {
     if at.read_only {
         return Err(Refusal::ReadOnly);
@@ -81,6 +85,7 @@ fn commit_new<H: Host>(parts: &mut Parts<H>, stores: Stores) -> Result<u64, Refu
     ensures gives { CommitGives H.tells (moment parts.old) (moment parts.new) result }
     ensures settled { IsTrue H.tells → OnOk result ((parts.new.place ≡ parts.old.place) ⊎ IsSettled parts.old.revision (H.disk parts.new.host)) }
     ensures keeps { KeepsWith IsAny H.tells (moment parts.old) (moment parts.new) result }
+    ensures ordered { IsTrue H.tells → Ordered (moment parts.old) (moment parts.new) }
 {
     let header = next_header(parts, stores);
     let number = header.commit;

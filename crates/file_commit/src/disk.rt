@@ -4,7 +4,8 @@ ghost use Rattle.block_host.specs.Order.{IsSettled};
 ghost use Rattle.file_parts.specs.Growing.{Grows, IsAny};
 ghost use Rattle.file_parts.specs.Keeping.{Begins};
 ghost use Rattle.file_parts.specs.Moment.{Aside};
-ghost use Rattle.file_commit.specs.Committing.{listed};
+ghost use Rattle.file_core.specs.Updates.{listed};
+ghost use Rattle.file_commit.specs.Ordered.{Leaves, IsBegun, IsInTurn};
 
 use block_host::{Block, Failed, Host};
 
@@ -21,6 +22,7 @@ pub(crate) fn put_commit<H: Host>(
     ensures shown { IsTrue H.tells → OnOk result (H.View.content view.new ≡ (H.disk host.new).files file) }
     ensures kept { IsTrue H.tells → OnErr result (H.View.content view.new ≡ H.View.content view.old) }
     ensures settled { IsTrue H.tells → OnOk result (IsSettled file (H.disk host.new)) }
+    ensures in_turn { IsTrue H.tells → Leaves (IsInTurn file (H.disk host.old) (listed block) header.now) (H.disk host.old) (H.disk host.new) }
     ensures aside { IsTrue H.tells → Aside file (H.disk host.old) (H.disk host.new) }
     ensures front { IsTrue H.tells → Begins ((H.disk host.old).files file) ((H.disk host.new).files file) }
     ensures crash { IsTrue H.tells → Grows IsAny file (H.disk host.old) (H.disk host.new) }
@@ -31,7 +33,7 @@ pub(crate) fn put_commit<H: Host>(
     ensures view_count { H.View.faults view.new ≡ H.View.faults view.old }
 {
     put_open_block(host, file, block)?;
-    put_header(host, file, header)?;
+    put_at_end(host, file, &[*header])?;
     host.renew(file, view)
 }
 
@@ -39,6 +41,7 @@ pub(crate) fn put_commit<H: Host>(
 fn put_open_block<H: Host>(host: &mut H, file: u64, block: Option<Block>) -> Result<(), Failed>
     ensures files { IsTrue H.tells → OnOk result ((H.disk host.new).files file ≡ (H.disk host.old).files file ++ listed block) }
     ensures settled { IsTrue H.tells → OnOk result (IsSettled file (H.disk host.new)) }
+    ensures begun { IsTrue H.tells → Leaves (IsBegun file (H.disk host.old) (listed block)) (H.disk host.old) (H.disk host.new) }
     ensures aside { IsTrue H.tells → Aside file (H.disk host.old) (H.disk host.new) }
     ensures front { IsTrue H.tells → Begins ((H.disk host.old).files file) ((H.disk host.new).files file) }
     ensures crash { IsTrue H.tells → Grows IsAny file (H.disk host.old) (H.disk host.new) }
@@ -47,16 +50,17 @@ fn put_open_block<H: Host>(host: &mut H, file: u64, block: Option<Block>) -> Res
     ensures counts { H.faults host.old ≤ H.faults host.new }
     ensures untroubled { OnOk result (H.faults host.new ≡ H.faults host.old) }
 {
-    if let Some(block) = block {
-        host.append(file, &[block])?;
+    match block {
+        Some(block) => put_at_end(host, file, &[block]),
+        None => host.sync(file),
     }
-    host.sync(file)
 }
 
-// Puts a header at the end of the file, and makes sure of it.
-fn put_header<H: Host>(host: &mut H, file: u64, header: &Block) -> Result<(), Failed>
-    ensures files { IsTrue H.tells → OnOk result ((H.disk host.new).files file ≡ (H.disk host.old).files file ++ header.now ∷ []) }
+// Puts blocks at the end of the file, and makes sure of it.
+fn put_at_end<H: Host>(host: &mut H, file: u64, blocks: &[Block]) -> Result<(), Failed>
+    ensures files { IsTrue H.tells → OnOk result ((H.disk host.new).files file ≡ (H.disk host.old).files file ++ blocks.now) }
     ensures settled { IsTrue H.tells → OnOk result (IsSettled file (H.disk host.new)) }
+    ensures begun { IsTrue H.tells → Leaves (IsBegun file (H.disk host.old) blocks.now) (H.disk host.old) (H.disk host.new) }
     ensures aside { IsTrue H.tells → Aside file (H.disk host.old) (H.disk host.new) }
     ensures front { IsTrue H.tells → Begins ((H.disk host.old).files file) ((H.disk host.new).files file) }
     ensures crash { IsTrue H.tells → Grows IsAny file (H.disk host.old) (H.disk host.new) }
@@ -65,6 +69,6 @@ fn put_header<H: Host>(host: &mut H, file: u64, header: &Block) -> Result<(), Fa
     ensures counts { H.faults host.old ≤ H.faults host.new }
     ensures untroubled { OnOk result (H.faults host.new ≡ H.faults host.old) }
 {
-    host.append(file, &[*header])?;
+    host.append(file, blocks)?;
     host.sync(file)
 }

@@ -1,6 +1,6 @@
 ghost use Rattle.std.specs.Prelude.{◌≡◌, ◌+◌, ◌<◌, false};
-ghost use Rattle.file_parts.specs.Held.{held};
 ghost use Rattle.block_host.specs.Sealed.{IsSealed};
+ghost use Rattle.file_parts.specs.Held.{held};
 ghost use Rattle.header_block.specs.Layout.{NamesBlocks, header_bytes};
 ghost use Rattle.file_commit.specs.Committing.{is_commit_worn, is_far, header_after, TellsHeader};
 
@@ -29,11 +29,11 @@ pub(crate) fn next_header<H: Host>(parts: &Parts<H>, stores: Stores) -> Header
     }
 }
 
-// A header as a block of the file.
+// A header as a block of the file, with exactly its bytes.
 pub(crate) fn sealed_header(header: &Header, revision: u64, at: u64) -> Block
     requires { NamesBlocks header.now }
+    ensures is_sealed { IsSealed revision at 4 (header_bytes header.now) result }
     ensures tells { TellsHeader header.now result.bytes }
-    ensures sealed { IsSealed revision at 4 (header_bytes header.now) result }
 {
     let _commit = header.commit;
     let _from = header.wal_from;

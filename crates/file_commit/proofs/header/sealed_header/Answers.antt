@@ -4,8 +4,8 @@ use Rattle.header_block.specs.Layout.{header_bytes}
 use Rattle.file_commit.proofs.SealedBytes.{payload_is, tells, small_link}
 use Rattle.file_commit.proofs.header.sealed_header.Goals as goal
 
-pub returns-clause-sealed : goal.returns-clause-sealed
-returns-clause-sealed c =
+pub returns-clause-is_sealed : goal.returns-clause-is_sealed
+returns-clause-is_sealed c =
     subst (λ (xs : List ℕ). IsSealed c.args.revision c.args.at 4 xs c.seal.result) (payload_is (header_bytes c.args.header.now) c.payload_of-page.result c.payload_of-page.ensures) c.seal.ensures
 
 pub returns-clause-tells : goal.returns-clause-tells
