@@ -1,1 +1,1 @@
-pub mod NewRun
+pub mod Ending

@@ -1,4 +1,4 @@
-ghost use Rattle.std.specs.Prelude.{◌≡◌, ◌≢◌, IsTrue, false, ◌⊎◌};
+ghost use Rattle.forest.specs.Ending.{EndsAs};
 
 /// The status where the words are refused.
 pub(crate) const WORDS_REFUSED: u8 = 1;
@@ -9,17 +9,21 @@ pub(crate) const HOST_FAULT: u8 = 4;
 /// The status where there is no memory.
 pub(crate) const NO_MEMORY: u8 = 5;
 
-/// The status with which the program ends after a run: whether what was said is written, and whether the
+/// How the program ends: whether what was said was written, and the exit status.
+#[derive(Clone, Copy, Debug, PartialEq, Eq)]
+pub(crate) struct Ending {
+    pub(crate) written: bool,
+    pub(crate) status: u8,
+}
+
+/// The status with which the program ends after a run: whether what was said is written, and how often the
 /// host in memory has failed for want of memory.
-pub(crate) fn status_at_end(status: u8, written: bool, short: bool) -> u8
-    ensures passed { IsTrue written → status ≢ 4 → result ≡ status }
-    ensures host { status ≡ 4 → short ≡ false → result ≡ 4 }
-    ensures unwritten { written ≡ false → short ≡ false → result ≡ 4 }
-    ensures short { IsTrue short → (status ≡ 4) ⊎ (written ≡ false) → result ≡ 5 }
+pub(crate) fn status_at_end(status: u8, written: bool, short: u64) -> u8
+    ensures { EndsAs status written short result }
 {
     if written && status != HOST_FAULT {
         status
-    } else if short {
+    } else if short > 0 {
         NO_MEMORY
     } else {
         HOST_FAULT

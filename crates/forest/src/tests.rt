@@ -1,8 +1,14 @@
+use crate::answers::play_in_memory;
+use crate::ending::Ending;
+use crate::tell;
 use block_host::MemorySource;
 use host_memory::MemoryHost;
 use play_run::{Played, play};
 use std::alloc::{AllocError, Global};
+use std::fmt::Display;
+use std::io;
 use std::process::Abort;
+use std::sync::atomic::{AtomicUsize, Ordering};
 use std::test::Fail;
 
 const SCRIPT: &[u8] =
@@ -286,5 +292,121 @@ fn the_file_of_usual_use(rt: HostRuntime) -> Result<(), Fail> {
     let mut source = MemorySource::new(b"0 set apple red\n0 commit\n0 get apple\n".to_vec(alloc)?);
     let played = run(alloc, &mut source, MemoryHost::formatted(alloc)?)?;
     assert!(rt; has_files(&played.host, 3));
+    Ok(())
+}
+
+// An output that may be closed. It counts how often it was given just these bytes, and how often the usage was told.
+#[derive(Drop)]
+struct Output<'a> {
+    wanted: &'a [u8],
+    closed: bool,
+    right: AtomicUsize,
+    usage: AtomicUsize,
+}
+
+impl Print for Output<'_> {
+    fn print<D: Display + Drop>(&self, _value: D) -> io::Result<()> {
+        Ok(())
+    }
+
+    fn println<D: Display + Drop>(&self, _value: D) -> io::Result<()> {
+        Ok(())
+    }
+
+    fn write_all(&self, bytes: &[u8]) -> io::Result<()> {
+        if self.closed {
+            return Err(io::Error::from(io::ErrorKind::BrokenPipe));
+        }
+        if bytes == self.wanted {
+            self.right.fetch_add(1, Ordering::SeqCst);
+        }
+        Ok(())
+    }
+}
+
+impl Eprint for Output<'_> {
+    fn eprint<D: Display + Drop>(&self, _value: D) -> io::Result<()> {
+        self.usage.fetch_add(1, Ordering::SeqCst);
+        Ok(())
+    }
+
+    fn eprintln<D: Display + Drop>(&self, _value: D) -> io::Result<()> {
+        Ok(())
+    }
+}
+
+// Runs a script by the first of these words, so many.
+fn end_of(
+    alloc: Global,
+    count: usize,
+    script: &[u8],
+    output: &Output<'_>,
+) -> Result<Ending, AllocError> {
+    let words = vec![in alloc;
+        String::from_str(alloc, "play")?,
+        String::from_str(alloc, "--memory")?,
+        String::from_str(alloc, "more")?,
+    ]?;
+    let mut source = MemorySource::new(script.to_vec(alloc)?);
+    let host = MemoryHost::formatted(alloc)?;
+    let given = words.get(..count).unwrap_or_default();
+    let played = play_in_memory(alloc, given, &mut source, host);
+    Ok(tell(output, played))
+}
+
+// The exit status, how often just these bytes were written, and how often the usage was told.
+fn ends(
+    alloc: Global,
+    count: usize,
+    script: &[u8],
+    closed: bool,
+    wanted: &[u8],
+) -> Result<(u8, usize, usize), AllocError> {
+    let output = Output {
+        wanted,
+        closed,
+        right: AtomicUsize::new(0),
+        usage: AtomicUsize::new(0),
+    };
+    let ending = end_of(alloc, count, script, &output)?;
+    Ok((
+        ending.status,
+        output.right.load(Ordering::SeqCst),
+        output.usage.load(Ordering::SeqCst),
+    ))
+}
+
+#[test]
+fn a_bad_line(rt: HostRuntime) -> Result<(), Fail> {
+    let script = b"0 set a 1\n0 fly\n0 get a\n";
+    let wanted = b"0 1 ok 1\nline 2: bad line\n";
+    assert_eq!(rt; ends(rt.alloc(), 2, script, false, wanted)?, (3, 1, 0));
+    Ok(())
+}
+
+#[test]
+fn a_word_too_many_or_too_few(rt: HostRuntime) -> Result<(), Fail> {
+    let wanted = b"words refused\n";
+    assert_eq!(rt;
+        ends(rt.alloc(), 3, b"0 commit\n", false, wanted)?,
+        (1, 1, 1)
+    );
+    assert_eq!(rt;
+        ends(rt.alloc(), 1, b"0 commit\n", false, wanted)?,
+        (1, 1, 1)
+    );
+    Ok(())
+}
+
+#[test]
+fn an_empty_input(rt: HostRuntime) -> Result<(), Fail> {
+    assert_eq!(rt; ends(rt.alloc(), 2, b"", false, b"")?, (0, 1, 0));
+    Ok(())
+}
+
+#[test]
+fn a_closed_output(rt: HostRuntime) -> Result<(), Fail> {
+    assert_eq!(rt; ends(rt.alloc(), 2, b"0 set a 1\n", true, b"")?, (4, 0, 0));
+    assert_eq!(rt; ends(rt.alloc(), 3, b"0 set a 1\n", true, b"")?, (4, 0, 1));
     Ok(())
 }

@@ -3,6 +3,7 @@ use Rattle.std.proofs.Common.{◌≡◌, ℕ, ◌≤◌, Bool, refl, sym, ap, su
 use Rattle.std.specs.Prelude.{◌≢◌, ◌⊎◌, IsTrue, Some, Result, Ok, Err, IfOk, IfErr, OnOk}
 use Rattle.file_parts.specs.Held.{Held}
 use Rattle.file_core.specs.Reads.{ReadsAs, ReadFails, refused_leaves}
+use Rattle.file_parts.specs.Causes.{OnlyMemory}
 use Rattle.file_parts.specs.Moment.{Moment}
 use Rattle.file_core.specs.Updates.{StandsAt, IsFile, Troubled, UpdatesAs, CommitsAs}
 use Rattle.forest_model.specs.Blocks.{File}
@@ -168,6 +169,41 @@ committed_update told s f at old new (Err why) c = record { done = tt; refused =
       ⊎ ((why ≡ refusal.DiskFault) × Troubled old new)
   by (inl r) = inl r
   by (inr r) = inr (inr r)
+
+-- ---- where the host doesn't fail, a refusal that ends the run leaves the files
+
+abbrev pub Settles : Type 0 → Result Said Ended → Type 0
+Settles P result = IfErr result (λ why. why ≢ ends.HostFault → P)
+
+refusal_settles : (P : Type 0) (why : Refusal) → (why ≢ refusal.DiskFault → P) → Settles P (said_or_ended why)
+refusal_settles P refusal.DiskFault keeps = λ apart. absurd (apart refl)
+refusal_settles P (refusal.Stopped faults) keeps = λ apart. absurd (apart refl)
+refusal_settles P refusal.Exists keeps = λ apart. absurd (apart refl)
+refusal_settles P refusal.NoMemory keeps = λ apart. keeps (λ e. cc)
+refusal_settles P (refusal.Damaged file block) keeps = λ apart. keeps (λ e. cc)
+refusal_settles P refusal.NotFound keeps = tt
+refusal_settles P refusal.NoCommit keeps = tt
+refusal_settles P refusal.ReadOnly keeps = tt
+refusal_settles P refusal.KeyLength keeps = tt
+refusal_settles P refusal.BodyLength keeps = tt
+refusal_settles P (refusal.Compacting ticket) keeps = tt
+refusal_settles P (refusal.NoTicket asked now) keeps = tt
+refusal_settles P (refusal.FileFull used needed most) keeps = tt
+refusal_settles P refusal.NoStore keeps = tt
+refusal_settles P refusal.StoreCount keeps = tt
+refusal_settles P refusal.NameForm keeps = tt
+refusal_settles P (refusal.NotCopied left) keeps = tt
+refusal_settles P refusal.Worn keeps = tt
+refusal_settles P refusal.NoSnapshot keeps = tt
+
+pub update_settled : {T : Type 0} (told : Bool) (old new : Moment) (why : Refusal) (result : Result Said Ended) → result ≡ said_or_ended why
+    → ((other : Refusal) → ◌≡◌ {A = Result T Refusal} (Err why) (Err other) → other ≢ refusal.DiskFault → OnlyMemory old new) → Settles (IsTrue told → new.disk.files ≡ old.disk.files) result
+update_settled {T} told old new why result is refused =
+    subst (Settles (IsTrue told → new.disk.files ≡ old.disk.files)) (sym is) (refusal_settles (IsTrue told → new.disk.files ≡ old.disk.files) why (λ apart _. (refused why refl apart).files))
+
+pub all_settled : (P : Type 0) (result : Result Said Ended) → P → Settles P result
+all_settled P (Ok said) p = tt
+all_settled P (Err why) p = λ _. p
 
 -- ---- reads
 

@@ -3,15 +3,17 @@ use Rattle.std.proofs.Common.{◌≡◌, ◌≢◌, ℕ, ◌+◌, ◌≤◌, Boo
 use Rattle.std.specs.Prelude.{◌⊎◌}
 use Rattle.std.proofs.Math.Seq.{take-add}
 use Rattle.std.proofs.lemmas.Bool.{eqb-true, false≢true}
-use Rattle.play_run.specs.Script.{IsText, ended, HasSaid, last_line}
+use Rattle.forest_model.specs.Blocks.{File}
+use Rattle.play_run.specs.Play.{ComesTo, RunsSome}
+use Rattle.play_run.specs.Script.{IsText, ended, HasSaid, HasSaidPart, RunsPrefix, RunsPart, last_line}
 use Rattle.play_run.specs.Seen.{Seen}
 use Rattle.play_run.specs.Playing.{Position}
-use Rattle.play_run.specs.Progress.{HasRun, HasTaken, HasHeard, HasHeardOf, HasHeardPart, Stops, StopsText, StopsAtBad, StopsAmong, StopsInPart, Feeds, EndsBy, EndsAmong, EndsInPart}
+use Rattle.play_run.specs.Progress.{HasRun, HasTaken, HasHeard, HasHeardPart, HasBroken, Stops, StopsText, StopsAtBad, StopsByHost, RunsSomeWhole, RunsWholePart, Feeds, EndsBy, EndsByHost}
 use Rattle.play_run.specs.declared.player.Ended.{Ended}
 use Rattle.play_run.specs.declared.player.Ended.TheVariants.{BadLine, NoMemory, HostFault, SourceFault, AtEnd, Damaged}
 use Rattle.play_run.specs.declared.player.TheConstants.{SCRIPT_LIMIT}
-use Rattle.play_run.proofs.Runs.{heard_run, heard_of}
-use Rattle.play_run.proofs.Taking.{stops_more, heard_same}
+use Rattle.play_run.proofs.Runs.{heard_run, comes_as, comes_same, breaks_as}
+use Rattle.play_run.proofs.Taking.{stops_more}
 
 -- ---- at the end of the input
 
@@ -29,7 +31,7 @@ ends_empty tells base heard taken line_open m count t short none =
           rest = [];
           cut = t.cut ∙ ap (λ o. ended t.texts ++ o) none;
           no_newline = tt;
-          said_all = subst (λ ts. HasSaid h.first h.last ts h.said) (sym (append-nil t.texts)) h.said_all;
+          said_all = subst (λ ts. HasSaid h.first h.last ts h.said) (sym (append-nil t.texts)) h.ran;
         };
         short = short;
         said_is = h.said_is;
@@ -65,7 +67,7 @@ ends_last tells base heard heard' taken line_open m m' count after t short some 
           rest = line_open;
           cut = t.cut;
           no_newline = t.no_newline;
-          said_all = subst (λ ts. HasSaid h.first h.last (t.texts ++ ts) h.said) (sym (last_of line_open some)) h.said_all;
+          said_all = subst (λ ts. HasSaid h.first h.last (t.texts ++ ts) h.said) (sym (last_of line_open some)) h.ran;
         };
         short = short;
         said_is = h.said_is;
@@ -74,76 +76,49 @@ ends_last tells base heard heard' taken line_open m m' count after t short some 
       },
     )
 
-pub ends_stops : (why : Ended) (tells : Bool) (base heard heard' : Seen) (taken line_open : List ℕ) (m : Position) (count after : ℕ) → HasTaken tells base heard taken m line_open count → line_open ≢ []
-    → StopsText why tells line_open m count heard heard' → after ≡ count → EndsBy why tells base heard' taken [] after
-ends_stops BadLine tells base heard heard' taken line_open m count after t some stop same = record {
-  texts = t.texts;
-  taken = taken;
-  rest = line_open;
-  source = sym (append-nil taken);
-  cut = t.cut;
-  bad = inr (inl (t.no_newline, stop.0, some, refl));
-  counted = t.run.counted ∙ sym same;
-  run = heard_same tells base heard heard' t.texts (heard_run tells base heard t.texts m count t.run) stop.1;
-}
-ends_stops NoMemory tells base heard heard' taken line_open m count after t some stop same =
-    let h : HasHeardOf tells base heard' t.texts = heard_of tells base heard heard' t.texts (heard_run tells base heard t.texts m count t.run) stop in
-    record {
-      taken = taken;
-      source = sym (append-nil taken);
-      first = h.first;
-      last = h.last;
-      said = h.said;
-      some = record { texts = t.texts; rest = line_open; cut = t.cut; said_all = h.said_all };
-      said_is = h.said_is;
-      first_is = h.first_is;
-    }
-ends_stops HostFault tells base heard heard' taken line_open m count after t some stop same = by (stop base t.texts t.no_newline t.run) where
-  by : HasHeardPart tells base heard' t.texts ⊎ HasHeardPart tells base heard' (t.texts ++ line_open ∷ []) → EndsInPart tells base heard' taken []
-  by (inl part) = record {
-    taken = taken;
-    source = sym (append-nil taken);
-    first = part.first;
-    last = part.last;
-    whole = part.whole;
-    some = inl (record { texts = t.texts; rest = line_open; cut = t.cut; said_all = part.said_all });
-    n = part.n;
-    said_is = part.said_is;
-    first_is = part.first_is;
+-- why the last line stops the run, which has no newline
+module _ (tells : Bool) (base heard : Seen) (taken line_open : List ℕ) (m : Position) (count : ℕ) (t : HasTaken tells base heard taken m line_open count) (some : line_open ≢ []) where
+  some_run : (first last : File) (said : List ℕ) → HasSaid first last t.texts said → RunsPrefix first last taken said
+  some_run first last said has = record { texts = t.texts; rest = line_open; cut = t.cut; said_all = has }
+
+  last_run : (n : ℕ) (first last : File) (said : List ℕ) → HasSaidPart n first last (t.texts ++ line_open ∷ []) said → RunsPart n first last taken said
+  last_run n first last said has = record {
+    texts = t.texts ++ line_open ∷ [];
+    cut = inr (t.texts, line_open, t.cut, t.no_newline, ap (λ ts. t.texts ++ ts) (sym (last_of line_open some)));
+    said_part = has;
   }
-  by (inr part) = record {
+
+  pub ends_stops : (why : Ended) (heard' : Seen) (after : ℕ) → StopsText why tells line_open m count heard heard' → after ≡ count → EndsBy why tells base heard' taken [] after
+  ends_stops BadLine heard' after stop same = record {
+    texts = t.texts;
     taken = taken;
+    rest = line_open;
     source = sym (append-nil taken);
-    first = part.first;
-    last = part.last;
-    whole = part.whole;
-    some = inr (record {
-      texts = t.texts;
-      rest = line_open;
-      cut = t.cut;
-      no_newline = t.no_newline;
-      said_all = subst (λ ts. HasSaid part.first part.last (t.texts ++ ts) part.whole) (sym (last_of line_open some)) part.said_all;
-    });
-    n = part.n;
-    said_is = part.said_is;
-    first_is = part.first_is;
+    cut = t.cut;
+    bad = inr (inl (t.no_newline, stop.0, some, refl));
+    counted = t.run.counted ∙ sym same;
+    run = comes_same tells base heard heard' (λ first last. HasSaid first last t.texts) (heard_run tells base heard t.texts m count t.run) stop.1;
   }
-ends_stops (Damaged file block) tells base heard heard' taken line_open m count after t some stop same =
-    let h : HasHeardOf tells base heard' t.texts = heard_of tells base heard heard' t.texts (heard_run tells base heard t.texts m count t.run) (λ told. absurd (stop told)) in (
-      record {
-        taken = taken;
-        source = sym (append-nil taken);
-        first = h.first;
-        last = h.last;
-        said = h.said;
-        some = record { texts = t.texts; rest = line_open; cut = t.cut; said_all = h.said_all };
-        said_is = h.said_is;
-        first_is = h.first_is;
-      },
-      stop,
-    )
-ends_stops AtEnd tells base heard heard' taken line_open m count after t some stop same = absurd stop
-ends_stops SourceFault tells base heard heard' taken line_open m count after t some stop same = absurd stop
+  ends_stops NoMemory heard' after stop same = (taken, sym (append-nil taken), by (stop base t.texts t.no_newline t.run)) where
+    by : HasHeard tells base heard' t.texts ⊎ HasHeardPart 0 tells base heard' (t.texts ++ line_open ∷ []) → ComesTo tells base heard' (RunsSome taken)
+    by (inl all) = comes_as tells base heard' (λ first last. HasSaid first last t.texts) (RunsSome taken) (λ first last said has. inl (some_run first last said has)) all
+    by (inr part) = comes_as tells base heard' (λ first last. HasSaidPart 0 first last (t.texts ++ line_open ∷ [])) (RunsSome taken) (λ first last said has. inr (last_run 0 first last said has)) part
+  ends_stops HostFault heard' after stop same = (taken, sym (append-nil taken), by (stop base t.texts t.no_newline t.run)) where
+    by : HasBroken tells base heard' t.texts ⊎ ((n : ℕ) × HasHeardPart n tells base heard' (t.texts ++ line_open ∷ [])) → EndsByHost tells base heard' taken
+    by (inl broken) = inr (breaks_as tells base heard' (λ first last. HasSaid first last t.texts) (λ first last. RunsPrefix first last taken) some_run broken)
+    by (inr part) = inl (comes_as tells base heard' (λ first last. HasSaidPart part.0 first last (t.texts ++ line_open ∷ [])) (λ first last said. (n : ℕ) × RunsPart n first last taken said)
+        (λ first last said has. (part.0, last_run part.0 first last said has)) part.1)
+  ends_stops (Damaged file block) heard' after stop same = (
+    (
+      taken,
+      sym (append-nil taken),
+      comes_same tells base heard heard' (λ first last. RunsPrefix first last taken)
+          (comes_as tells base heard (λ first last. HasSaid first last t.texts) (λ first last. RunsPrefix first last taken) some_run (heard_run tells base heard t.texts m count t.run)) (λ told. absurd (stop told)),
+    ),
+    stop,
+  )
+  ends_stops AtEnd heard' after stop same = absurd stop
+  ends_stops SourceFault heard' after stop same = absurd stop
 
 -- ---- after a read
 
@@ -158,7 +133,7 @@ fault_ends tells base heard taken script left line_open m count t short source =
       first = h.first;
       last = h.last;
       said = h.said;
-      whole = record { texts = t.texts; rest = line_open; cut = t.cut; no_newline = t.no_newline; said_all = h.said_all };
+      whole = record { texts = t.texts; rest = line_open; cut = t.cut; no_newline = t.no_newline; said_all = h.ran };
       said_is = h.said_is;
       first_is = h.first_is;
       last_is = h.last_is;
@@ -175,17 +150,18 @@ taken_so_far : (taken kept more left old script : List ℕ) → old ≡ (kept ++
 taken_so_far taken kept more left old script read source =
     source ∙ ap (λ o. taken ++ o) read ∙ sym (append_assoc taken (kept ++ more) left) ∙ ap (λ xs. xs ++ left) (sym (append_assoc taken kept more))
 
-among_ends : (tells : Bool) (base heard : Seen) (taken left script : List ℕ) → StopsAmong tells base heard taken → script ≡ taken ++ left → EndsAmong tells base heard script left
-among_ends tells base heard taken left script s source = record {
-  taken = taken;
-  source = source;
-  first = s.run.first;
-  last = s.run.last;
-  said = s.run.said;
-  some = record { texts = s.texts; rest = s.rest; cut = s.cut; said_all = s.run.said_all };
-  said_is = s.run.said_is;
-  first_is = s.run.first_is;
-}
+part_of_whole : (n : ℕ) (taken : List ℕ) (first last : File) (said : List ℕ) → RunsWholePart n first last taken said → RunsPart n first last taken said
+part_of_whole n taken first last said w = record { texts = w.texts; cut = inl (w.rest, w.cut); said_part = w.said_part }
+
+some_of_whole : (taken : List ℕ) (first last : File) (said : List ℕ) → RunsSomeWhole taken first last said → RunsSome taken first last said
+some_of_whole taken first last said (inl p) = inl p
+some_of_whole taken first last said (inr p) = inr (part_of_whole 0 taken first last said p)
+
+by_host_ends : (tells : Bool) (base heard : Seen) (taken : List ℕ) → StopsByHost tells base heard taken → EndsByHost tells base heard taken
+by_host_ends tells base heard taken (inl s) =
+    inl (comes_as tells base heard (λ first last said. (n : ℕ) × RunsWholePart n first last taken said) (λ first last said. (n : ℕ) × RunsPart n first last taken said)
+    (λ first last said p. (p.0, part_of_whole p.0 taken first last said p.1)) s)
+by_host_ends tells base heard taken (inr s) = inr s
 
 pub stops_ends : (why : Ended) (tells : Bool) (base heard : Seen) (taken kept more left old script : List ℕ) (count : ℕ) → Stops why tells base heard (taken ++ kept) count
     → old ≡ (kept ++ more) ++ left → script ≡ taken ++ old → EndsBy why tells base heard script left count
@@ -202,22 +178,17 @@ stops_ends BadLine tells base heard taken kept more left old script count s read
       run = all.run;
     }
 stops_ends NoMemory tells base heard taken kept more left old script count s read source =
-    among_ends tells base heard ((taken ++ kept) ++ more) left script (stops_more NoMemory tells base heard (taken ++ kept) more count s) (taken_so_far taken kept more left old script read source)
+    let all : Stops NoMemory tells base heard ((taken ++ kept) ++ more) count = stops_more NoMemory tells base heard (taken ++ kept) more count s in (
+      (taken ++ kept) ++ more,
+      taken_so_far taken kept more left old script read source,
+      comes_as tells base heard (RunsSomeWhole ((taken ++ kept) ++ more)) (RunsSome ((taken ++ kept) ++ more)) (some_of_whole ((taken ++ kept) ++ more)) all,
+    )
 stops_ends (Damaged file block) tells base heard taken kept more left old script count s read source =
-    (among_ends tells base heard ((taken ++ kept) ++ more) left script (stops_more NoMemory tells base heard (taken ++ kept) more count s.0) (taken_so_far taken kept more left old script read source), s.1)
+    let all : Stops (Damaged file block) tells base heard ((taken ++ kept) ++ more) count = stops_more (Damaged file block) tells base heard (taken ++ kept) more count s in
+    (((taken ++ kept) ++ more, taken_so_far taken kept more left old script read source, all.0), all.1)
 stops_ends HostFault tells base heard taken kept more left old script count s read source =
-    let all : StopsInPart tells base heard ((taken ++ kept) ++ more) = stops_more HostFault tells base heard (taken ++ kept) more count s in
-    record {
-      taken = (taken ++ kept) ++ more;
-      source = taken_so_far taken kept more left old script read source;
-      first = all.run.first;
-      last = all.run.last;
-      whole = all.run.whole;
-      some = inl (record { texts = all.texts; rest = all.rest; cut = all.cut; said_all = all.run.said_all });
-      n = all.run.n;
-      said_is = all.run.said_is;
-      first_is = all.run.first_is;
-    }
+    let all : Stops HostFault tells base heard ((taken ++ kept) ++ more) count = stops_more HostFault tells base heard (taken ++ kept) more count s in
+    ((taken ++ kept) ++ more, taken_so_far taken kept more left old script read source, by_host_ends tells base heard ((taken ++ kept) ++ more) all)
 stops_ends AtEnd tells base heard taken kept more left old script count s read source = absurd s
 stops_ends SourceFault tells base heard taken kept more left old script count s read source = absurd s
 

@@ -2,6 +2,7 @@ mod Kept
 mod Refusing
 mod Answering
 mod Turns
+mod Sparing
 mod Starting
 mod Counts
 mod Runs

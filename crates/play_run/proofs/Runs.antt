@@ -1,6 +1,5 @@
 -- How a run of lines goes on, and what it says.
 use Rattle.std.proofs.Common.{◌≡◌, ℕ, ◌+◌, ◌≤◌, List, [], ◌∷◌, ◌++◌, length, Bool, true, false, refl, sym, ap, subst, ◌∙◌, arith, append_assoc, append-nil, length-append, take}
-use Rattle.std.proofs.Math.Seq.{take-append-add, take-length}
 use Rattle.std.proofs.lemmas.Bool.{false≢true}
 use Rattle.std.specs.Prelude.{IsTrue}
 use Rattle.block_host.specs.Disk.{Disk}
@@ -10,10 +9,11 @@ use Rattle.forest_model.specs.Session.{Session, IsTurn, call_in}
 use Rattle.forest_model.specs.Run.{Run, FileAfter}
 use Rattle.forest_model.specs.declared.line.Line.{Line}
 use Rattle.forest_model.specs.declared.line.Told.{Told}
-use Rattle.play_run.specs.Seen.{Seen, seen, current}
+use Rattle.play_run.specs.Seen.{Seen, BeginsWith, seen, current}
 use Rattle.play_run.specs.Playing.{Position, IsAt, IsSomewhere, Leads}
 use Rattle.play_run.specs.Script.{start, IsTaken, AreTaken, IsText, ended, replies, reply_line, HasSaid}
-use Rattle.play_run.specs.Progress.{HasRun, HasTaken, HasHeard, HasHeardOf, HasHeardPart, RunsText}
+use Rattle.play_run.specs.Play.{ComesTo, BreaksOff}
+use Rattle.play_run.specs.Progress.{HasRun, HasTaken, HasHeard, HasHeardPart, HasBroken, RunsText}
 use Rattle.play_run.proofs.Kept.{session_kept}
 
 -- one line more
@@ -73,59 +73,56 @@ pub ended-push : (texts : List (List ℕ)) (text : List ℕ) → ended (texts ++
 ended-push [] text = refl
 ended-push (t ∷ texts) text = rw (ended-push texts text) (simp append_assoc)
 
--- the lines run so far are a run
-pub heard_run : (tells : Bool) (base heard : Seen) (texts : List (List ℕ)) (m : Position) (count : ℕ) → HasRun tells base heard texts m count → HasHeard tells base heard texts
-heard_run tells base heard texts m count r = record {
-  first = r.first;
-  last = r.last;
-  said = replies r.told;
-  said_all = record { lines = r.lines; told = r.told; taken = r.taken; after = r.after; run = r.run; is = refl };
-  said_is = r.said_is;
-  first_is = r.first_is;
-  last_is = r.last_is;
+-- ---- what a run comes to
+
+-- as another relation, and as what is seen later of a host that tells
+pub comes_as : (tells : Bool) (base now : Seen) (P Q : File → File → List ℕ → Type 0) → ((first last : File) (said : List ℕ) → P first last said → Q first last said) → ComesTo tells base now P → ComesTo tells base now Q
+comes_as tells base now P Q f c = record { first = c.first; last = c.last; said = c.said; ran = f c.first c.last c.said c.ran; said_is = c.said_is; first_is = c.first_is; last_is = c.last_is }
+
+pub breaks_as : (tells : Bool) (base now : Seen) (P Q : File → File → List ℕ → Type 0) → ((first last : File) (said : List ℕ) → P first last said → Q first last said) → BreaksOff tells base now P → BreaksOff tells base now Q
+breaks_as tells base now P Q f c = record { first = c.first; last = c.last; said = c.said; ran = f c.first c.last c.said c.ran; said_is = c.said_is; first_is = c.first_is; front = c.front }
+
+pub comes_same : (tells : Bool) (base heard now : Seen) (P : File → File → List ℕ → Type 0) → ComesTo tells base heard P → (IsTrue tells → now ≡ heard) → ComesTo tells base now P
+comes_same tells base heard now P c same = record {
+  first = c.first;
+  last = c.last;
+  said = c.said;
+  ran = c.ran;
+  said_is = λ told. ap (λ (s : Seen). s.said) (same told) ∙ c.said_is told;
+  first_is = c.first_is;
+  last_is = λ told. c.last_is told ∙ ap (λ (s : Seen). s.file) (sym (same told));
 }
 
--- the same, where only what was said stays as it was
-pub heard_of : (tells : Bool) (base heard heard' : Seen) (texts : List (List ℕ)) → HasHeard tells base heard texts → (IsTrue tells → heard'.said ≡ heard.said) → HasHeardOf tells base heard' texts
-heard_of tells base heard heard' texts h same = record {
-  first = h.first;
-  last = h.last;
-  said = h.said;
-  said_all = h.said_all;
-  said_is = λ told. same told ∙ h.said_is told;
-  first_is = h.first_is;
+pub breaks_same : (tells : Bool) (base heard now : Seen) (P : File → File → List ℕ → Type 0) → BreaksOff tells base heard P → (IsTrue tells → now ≡ heard) → BreaksOff tells base now P
+breaks_same tells base heard now P c same = record {
+  first = c.first;
+  last = c.last;
+  said = c.said;
+  ran = c.ran;
+  said_is = λ told. ap (λ (s : Seen). s.said) (same told) ∙ c.said_is told;
+  first_is = c.first_is;
+  front = λ told. subst (λ (s : Seen). BeginsWith c.last s.file) (sym (same told)) (c.front told);
 }
 
--- and where only the first of its bytes were said
-pub heard_part : (tells : Bool) (base heard heard' : Seen) (texts : List (List ℕ)) → HasHeard tells base heard texts → (IsTrue tells → heard'.said ≡ heard.said) → HasHeardPart tells base heard' texts
-heard_part tells base heard heard' texts h same = record {
-  first = h.first;
-  last = h.last;
-  whole = h.said;
-  said_all = h.said_all;
-  n = length h.said;
-  said_is = λ told. same told ∙ h.said_is told ∙ ap (λ xs. base.said ++ xs) (sym (take-length h.said));
-  first_is = h.first_is;
-}
+module _ (tells : Bool) (base heard : Seen) (texts : List (List ℕ)) (m : Position) (count : ℕ) (r : HasRun tells base heard texts m count) where
+  all_said : HasSaid r.first r.last texts (replies r.told)
+  all_said = record { lines = r.lines; told = r.told; taken = r.taken; after = r.after; run = r.run; is = refl }
 
--- only the first of the last bytes were heard
-part_heard : (tells : Bool) (base middle heard' : Seen) (texts : List (List ℕ)) (first last : File) (before bytes whole : List ℕ) → HasSaid first last texts whole
-    → (IsTrue tells → first ≡ base.file) → (IsTrue tells → middle.said ≡ base.said ++ before) → (IsTrue tells → whole ≡ before ++ bytes)
-    → (IsTrue tells → (n : ℕ) × (n ≤ length bytes) × (heard'.said ≡ middle.said ++ take n bytes)) → HasHeardPart tells base heard' texts
-part_heard true base middle heard' texts first last before bytes whole said_all first_is before_is is part =
-    let p = part refl in
-    record {
-      first = first;
-      last = last;
-      whole = whole;
-      said_all = said_all;
-      n = length before + p.0;
-      said_is = λ _. p.2 ∙ ap (λ xs. xs ++ take p.0 bytes) (before_is refl) ∙ append_assoc base.said before (take p.0 bytes)
-          ∙ ap (λ xs. base.said ++ xs) (sym (take-append-add before bytes p.0)) ∙ ap (λ xs. base.said ++ take (length before + p.0) xs) (sym (is refl));
-      first_is = first_is;
-    }
-part_heard false base middle heard' texts first last before bytes whole said_all first_is before_is is part =
-    record { first = first; last = last; whole = whole; said_all = said_all; n = 0; said_is = λ told. absurd (false≢true told); first_is = first_is }
+  -- the lines run so far are a run
+  pub heard_run : HasHeard tells base heard texts
+  heard_run = record { first = r.first; last = r.last; said = replies r.told; ran = all_said; said_is = r.said_is; first_is = r.first_is; last_is = r.last_is }
+
+  -- and the host may fail behind them
+  pub broken_run : (heard' : Seen) → (IsTrue tells → heard'.said ≡ heard.said) → (IsTrue tells → BeginsWith heard.file heard'.file) → HasBroken tells base heard' texts
+  broken_run heard' same front = record {
+    first = r.first;
+    last = r.last;
+    said = replies r.told;
+    ran = all_said;
+    said_is = λ told. same told ∙ r.said_is told;
+    first_is = r.first_is;
+    front = λ told. ((front told).0, (front told).1 ∙ ap (λ (f : File). f ++ (front told).0) (sym (r.last_is told)));
+  }
 
 -- ---- one line more
 
@@ -164,22 +161,43 @@ run_more tells base heard middle texts m m' disk count text bytes t r runs plain
     }
 
 -- the same where only the first bytes of the reply are said
-pub run_part : (tells : Bool) (base heard middle heard' : Seen) (texts : List (List ℕ)) (m m' : Position) (count : ℕ) (text bytes : List ℕ) (t : Told)
-    → HasRun tells base heard texts m count → RunsText tells text m m' heard middle t → IsText text → bytes ≡ reply_line t
-    → (IsTrue tells → (n : ℕ) × (n ≤ length bytes) × (heard'.said ≡ middle.said ++ take n bytes)) → HasHeardPart tells base heard' (texts ++ text ∷ [])
-run_part tells base heard middle heard' texts m m' count text bytes t r runs plain bytes_are part =
-    let l : Leads tells m' r.after r.last runs.line t = runs.goes r.after r.last r.here in
-    let said_all : HasSaid r.first l.grown (texts ++ text ∷ []) (replies (r.told ++ l.told ∷ [])) =
-    record {
-      lines = r.lines ++ runs.line ∷ [];
-      told = r.told ++ l.told ∷ [];
-      taken = AreTaken-push r.lines texts runs.line text r.taken runs.taken plain;
-      after = l.next;
-      run = Run-push start r.first r.lines r.told r.after l.next r.last l.grown runs.line l.told r.run l.turn l.grows;
-      is = refl;
-    } in
-    part_heard tells base middle heard' (texts ++ text ∷ []) r.first l.grown (replies r.told) bytes (replies (r.told ++ l.told ∷ [])) said_all r.first_is
-    (λ told. runs.silent told ∙ r.said_is told) (λ told. replies-push r.told l.told ∙ ap (λ xs. replies r.told ++ xs) (ap reply_line (sym (l.same told)) ∙ sym bytes_are)) part
+first_of : (tells : Bool) (now before bytes : List ℕ) → (IsTrue tells → (n : ℕ) × (n ≤ length bytes) × (now ≡ before ++ take n bytes)) → (n : ℕ) × (IsTrue tells → now ≡ before ++ take n bytes)
+first_of true now before bytes part =
+    let p = part refl in
+    (p.0, λ told. p.2)
+first_of false now before bytes part = (0, λ told. absurd (false≢true told))
+
+module _ (tells : Bool) (base heard middle : Seen) (texts : List (List ℕ)) (m m' : Position) (disk : Disk) (count : ℕ) (text bytes : List ℕ) (t : Told) (r : HasRun tells base heard texts m count) (runs : RunsText tells text m m' heard middle t) (plain : IsText text) (bytes_are : bytes ≡ reply_line t) (files_are : IsTrue tells → disk.files ≡ m'.file.disk.files) where
+  said_first : (n : ℕ) → (IsTrue tells → disk.said ≡ middle.said ++ take n bytes) → HasHeardPart n tells base (seen disk) (texts ++ text ∷ [])
+  said_first n part =
+      let l : Leads tells m' r.after r.last runs.line t = runs.goes r.after r.last r.here in
+      let here : IsAt tells (on_disk m' disk) l.next l.grown = at_kept tells m' disk l.next l.grown files_are l.now in
+      record {
+        first = r.first;
+        last = l.grown;
+        said = replies r.told ++ take n (reply_line l.told);
+        ran = record {
+          lines = r.lines ++ runs.line ∷ [];
+          earlier = r.told;
+          t = l.told;
+          taken = AreTaken-push r.lines texts runs.line text r.taken runs.taken plain;
+          after = l.next;
+          run = Run-push start r.first r.lines r.told r.after l.next r.last l.grown runs.line l.told r.run l.turn l.grows;
+          is = refl;
+        };
+        said_is = λ told. part told ∙ ap (λ xs. xs ++ take n bytes) (runs.silent told ∙ r.said_is told) ∙ ap (λ xs. (base.said ++ replies r.told) ++ take n xs) (bytes_are ∙ ap reply_line (l.same told))
+            ∙ append_assoc base.said (replies r.told) (take n (reply_line l.told));
+        first_is = r.first_is;
+        last_is = file_shown tells (on_disk m' disk) l.next l.grown here;
+      }
+
+  pub run_part : (IsTrue tells → (n : ℕ) × (n ≤ length bytes) × (disk.said ≡ middle.said ++ take n bytes)) → (n : ℕ) × HasHeardPart n tells base (seen disk) (texts ++ text ∷ [])
+  run_part part =
+      let some = first_of tells disk.said middle.said bytes part in
+      (some.0, said_first some.0 some.1)
+
+  pub run_unsaid : (IsTrue tells → disk.said ≡ middle.said) → HasHeardPart 0 tells base (seen disk) (texts ++ text ∷ [])
+  run_unsaid silent = said_first 0 (λ told. silent told ∙ sym (append-nil middle.said))
 
 -- before the first byte
 pub before_first : (tells : Bool) (base : Seen) (m : Position) (f : File) (line_open : List ℕ) (count : ℕ) → IsAt tells m start f → (IsTrue tells → f ≡ base.file) → line_open ≡ [] → count ≡ 0

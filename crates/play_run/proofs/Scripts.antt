@@ -1,5 +1,5 @@
 -- What the run of a script says of the program, by what its parts say.
-use Rattle.std.proofs.Common.{◌≡◌, ℕ, Bool, List, [], ◌∷◌, ◌++◌, length, take, refl, sym, ap, subst, ◌∙◌, arith, append-nil, length-append, inl, inr}
+use Rattle.std.proofs.Common.{◌≡◌, ℕ, Bool, List, [], ◌∷◌, ◌++◌, length, refl, sym, ap, subst, ◌∙◌, arith, append-nil, length-append, inl, inr}
 use Rattle.std.specs.Prelude.{IsTrue}
 use Rattle.block_host.specs.Calls.{Reads}
 use Rattle.block_host.specs.Disk.{Disk, Image}
@@ -12,10 +12,10 @@ use Rattle.file_core.specs.declared.state.FileState.{FileState}
 use Rattle.forest_model.specs.Blocks.{File}
 use Rattle.forest_model.specs.declared.call.StoreRef.{StoreRef}
 use Rattle.forest_model.specs.declared.state.State.{State}
-use Rattle.play_run.specs.Seen.{Seen, seen}
+use Rattle.play_run.specs.Seen.{Seen, OthersStay, seen}
 use Rattle.play_run.specs.Playing.{Opened, IsSomewhere, StandsFor, opened, position}
 use Rattle.play_run.specs.Script.{start, HasSaid, RunsPrefix, HoldsBad, EndsBad, ended}
-use Rattle.play_run.specs.Play.{Leaves, Says, SaysPart, MaySay, Takes}
+use Rattle.play_run.specs.Play.{ComesTo, CutsText, FailsSeen, RunsSome, Takes}
 use Rattle.play_run.specs.Progress.{HasTaken, EndsBy, SaysEnd}
 use Rattle.play_run.specs.declared.player.Ended.{Ended}
 use Rattle.play_run.proofs.Taking.{taken_same}
@@ -67,7 +67,7 @@ none_run first = record { lines = []; told = []; taken = tt; after = start; run 
 no_prefix : (first : File) → RunsPrefix first first [] []
 no_prefix first = record { texts = []; rest = []; cut = refl; said_all = none_run first }
 
-pub nothing_run : (tells : Bool) (base now : Seen) (script : List ℕ) → (IsTrue tells → now ≡ base) → Takes script script (λ taken. Says tells base now (λ first last. RunsPrefix first last taken))
+pub nothing_run : (tells : Bool) (base now : Seen) (script : List ℕ) → (IsTrue tells → now ≡ base) → Takes script script (λ taken. ComesTo tells base now (RunsSome taken))
 nothing_run tells base now script same = (
   [],
   refl,
@@ -75,25 +75,26 @@ nothing_run tells base now script same = (
     first = base.file;
     last = base.file;
     said = [];
-    ran = no_prefix base.file;
+    ran = inl (no_prefix base.file);
     said_is = λ told. ap (λ (s : Seen). s.said) (same told) ∙ sym (append-nil base.said);
     first_is = λ _. refl;
+    last_is = λ told. ap (λ (s : Seen). s.file) (sym (same told));
   },
 )
 
-pub nothing_said : (tells : Bool) (base now : Seen) (script left : List ℕ) → (IsTrue tells → now ≡ base) → Takes script script (λ taken. SaysPart tells base now (MaySay taken left))
+pub nothing_said : (tells : Bool) (base now : Seen) (script left : List ℕ) → (IsTrue tells → now ≡ base) → Takes script script (λ taken. FailsSeen tells base now taken left)
 nothing_said tells base now script left same = (
   [],
   refl,
-  record {
+  inr (record {
     first = base.file;
     last = base.file;
-    whole = [];
-    ran = inl (no_prefix base.file);
-    n = 0;
+    said = [];
+    ran = no_prefix base.file;
     said_is = λ told. ap (λ (s : Seen). s.said) (same told) ∙ sym (append-nil base.said);
-    first_is = λ told. refl;
-  },
+    first_is = λ _. refl;
+    front = λ told. ([], ap (λ (s : Seen). s.file) (same told) ∙ sym (append-nil base.file));
+  }),
 )
 
 -- nothing is taken
@@ -121,7 +122,7 @@ pub takes_no_end : (script : List ℕ) → Takes script script (λ taken. EndsBa
 takes_no_end script t = ends_none script (subst (λ taken. EndsBad taken script) (none_taken script t.0 t.1) t.2)
 
 -- a run from what a host shows is one from what it showed before
-pub leaves_from : (tells : Bool) (base before now : Seen) (P : File → File → List ℕ → Type 0) → (IsTrue tells → before ≡ base) → Leaves tells before now P → Leaves tells base now P
+pub leaves_from : (tells : Bool) (base before now : Seen) (P : File → File → List ℕ → Type 0) → (IsTrue tells → before ≡ base) → ComesTo tells before now P → ComesTo tells base now P
 leaves_from tells base before now P same l = record {
   first = l.first;
   last = l.last;
@@ -132,23 +133,23 @@ leaves_from tells base before now P same l = record {
   last_is = l.last_is;
 }
 
-pub says_from : (tells : Bool) (base before now : Seen) (P : File → File → List ℕ → Type 0) → (IsTrue tells → before ≡ base) → Says tells before now P → Says tells base now P
-says_from tells base before now P same l = record {
-  first = l.first;
-  last = l.last;
-  said = l.said;
-  ran = l.ran;
-  said_is = λ told. l.said_is told ∙ ap (λ (s : Seen). s.said ++ l.said) (same told);
-  first_is = λ told. l.first_is told ∙ ap (λ (s : Seen). s.file) (same told);
-}
+pub fails_from : (tells : Bool) (base before now : Seen) (taken left : List ℕ) → (IsTrue tells → before ≡ base) → FailsSeen tells before now taken left → FailsSeen tells base now taken left
+fails_from tells base before now taken left same (inl c) = inl (leaves_from tells base before now (CutsText taken left) same c)
+fails_from tells base before now taken left same (inr b) = inr (record {
+  first = b.first;
+  last = b.last;
+  said = b.said;
+  ran = b.ran;
+  said_is = λ told. b.said_is told ∙ ap (λ (s : Seen). s.said ++ b.said) (same told);
+  first_is = λ told. b.first_is told ∙ ap (λ (s : Seen). s.file) (same told);
+  front = b.front;
+})
 
-pub part_from : (tells : Bool) (base before now : Seen) (P : File → File → List ℕ → Type 0) → (IsTrue tells → before ≡ base) → SaysPart tells before now P → SaysPart tells base now P
-part_from tells base before now P same l = record {
-  first = l.first;
-  last = l.last;
-  whole = l.whole;
-  ran = l.ran;
-  n = l.n;
-  said_is = λ told. l.said_is told ∙ ap (λ (s : Seen). s.said ++ take l.n l.whole) (same told);
-  first_is = λ told. l.first_is told ∙ ap (λ (s : Seen). s.file) (same told);
-}
+-- ---- other files
+
+-- over the opening, the run and the end
+pub others_through : {H V F : Type 0} {h : Host.Ghosts H V F} {v : View.Ghosts V} {f : Fresh.Ghosts F} (there first run closed : FileState H V F h v f) (before after now : Disk) → first ≡ there → closed ≡ run
+    → Reads before (h.disk there.parts.host) → OthersStay (h.disk first.parts.host) (h.disk run.parts.host) → Reads (h.disk closed.parts.host) after → now.files ≡ after.files → OthersStay before now
+others_through {H} {V} {F} {h} {v} {f} there first run closed before after now same close reads aside closes end = λ other apart.
+    ap (λ (files : Image). files other) (end ∙ closes.files ∙ ap (λ (file : FileState H V F h v f). (h.disk file.parts.host).files) close)
+    ∙ aside other apart ∙ ap (λ (files : Image). files other) (ap (λ (file : FileState H V F h v f). (h.disk file.parts.host).files) same ∙ reads.files)

@@ -3,27 +3,17 @@ use Rattle.std.proofs.Common.{◌≡◌, ◌≢◌, ℕ, ◌+◌, ◌<◌, Bool,
 use Rattle.std.specs.Prelude.{IsTrue, ◌⊎◌}
 use Rattle.std.proofs.lemmas.List.{take-append-drop}
 use Rattle.std.proofs.Math.Seq.{take-suc, take-length}
-use Rattle.play_run.specs.Script.{IsText, ended}
+use Rattle.forest_model.specs.Blocks.{File}
+use Rattle.play_run.specs.Play.{ComesTo}
+use Rattle.play_run.specs.Script.{IsText, HasSaid, HasSaidPart, RunsPrefix, ended}
 use Rattle.play_run.specs.Seen.{Seen}
 use Rattle.play_run.specs.Playing.{Position}
-use Rattle.play_run.specs.Progress.{HasRun, HasTaken, HasHeard, HasHeardPart, Stops, StopsText, StopsAmong, StopsInPart}
+use Rattle.play_run.specs.Progress.{HasRun, HasTaken, HasHeard, HasHeardPart, HasBroken, Stops, StopsText, StopsByHost, RunsSomeWhole, RunsWholePart}
 use Rattle.play_run.specs.declared.player.Ended.{Ended}
 use Rattle.play_run.specs.declared.player.Ended.TheVariants.{BadLine, NoMemory, HostFault, SourceFault, AtEnd, Damaged}
-use Rattle.play_run.proofs.Runs.{ended-push, heard_run, heard_of}
+use Rattle.play_run.proofs.Runs.{ended-push, heard_run, comes_as, comes_same, breaks_as}
 
--- what is heard of a host that tells is one thing: equal is the same
-pub heard_same : (tells : Bool) (base heard heard' : Seen) (texts : List (List ℕ)) → HasHeard tells base heard texts → (IsTrue tells → heard' ≡ heard) → HasHeard tells base heard' texts
-heard_same tells base heard heard' texts h same = record {
-  first = h.first;
-  last = h.last;
-  said = h.said;
-  said_all = h.said_all;
-  said_is = λ told. ap (λ (s : Seen). s.said) (same told) ∙ h.said_is told;
-  first_is = h.first_is;
-  last_is = λ told. h.last_is told ∙ ap (λ (s : Seen). s.file) (sym (same told));
-}
-
--- the same of what was taken
+-- what was taken of a host that tells: equal is the same
 pub taken_same : (tells : Bool) (base heard heard' : Seen) (taken : List ℕ) (m : Position) (line_open : List ℕ) (count : ℕ) → HasTaken tells base heard taken m line_open count → (IsTrue tells → heard' ≡ heard)
     → HasTaken tells base heard' taken m line_open count
 taken_same tells base heard heard' taken m line_open count t same = record {
@@ -71,50 +61,70 @@ goes_on_line tells base heard taken line_open m count byte t other = record {
   run = t.run;
 }
 
--- where memory runs out, some of the lines were run
-pub among : (tells : Bool) (base heard heard' : Seen) (taken more line_open : List ℕ) (m : Position) (count : ℕ) → HasTaken tells base heard taken m line_open count
-    → (IsTrue tells → heard'.said ≡ heard.said) → StopsAmong tells base heard' (taken ++ more)
-among tells base heard heard' taken more line_open m count t same = record {
-  texts = t.texts;
-  rest = line_open ++ more;
-  cut = ap (λ xs. xs ++ more) t.cut ∙ append_assoc (ended t.texts) line_open more;
-  run = heard_of tells base heard heard' t.texts (heard_run tells base heard t.texts m count t.run) same;
-}
+-- some of the lines were run
+module _ (tells : Bool) (base heard : Seen) (taken line_open : List ℕ) (m : Position) (count : ℕ) (t : HasTaken tells base heard taken m line_open count) where
+  pub some_run : (more : List ℕ) (first last : File) (said : List ℕ) → HasSaid first last t.texts said → RunsPrefix first last (taken ++ more) said
+  some_run more first last said has = record { texts = t.texts; rest = line_open ++ more; cut = ap (λ xs. xs ++ more) t.cut ∙ append_assoc (ended t.texts) line_open more; said_all = has }
 
--- a newline behind a text that stops the run
-pub stops_line : (why : Ended) (tells : Bool) (base heard heard' : Seen) (taken line_open : List ℕ) (m : Position) (count after : ℕ) → HasTaken tells base heard taken m line_open count
-    → StopsText why tells line_open m count heard heard' → after ≡ count → Stops why tells base heard' (taken ++ 10 ∷ []) after
-stops_line BadLine tells base heard heard' taken line_open m count after t stop same = record {
-  texts = t.texts;
-  bad = line_open;
-  more = [];
-  cut = ap (λ xs. xs ++ 10 ∷ []) t.cut;
-  no_newline = t.no_newline;
-  no_line = stop.0;
-  counted = t.run.counted ∙ sym same;
-  run = heard_same tells base heard heard' t.texts (heard_run tells base heard t.texts m count t.run) stop.1;
-}
-stops_line NoMemory tells base heard heard' taken line_open m count after t stop same = among tells base heard heard' taken (10 ∷ []) line_open m count t stop
-stops_line HostFault tells base heard heard' taken line_open m count after t stop same = by (stop base t.texts t.no_newline t.run) where
-  by : HasHeardPart tells base heard' t.texts ⊎ HasHeardPart tells base heard' (t.texts ++ line_open ∷ []) → StopsInPart tells base heard' (taken ++ 10 ∷ [])
-  by (inl part) = record {
-    texts = t.texts;
-    rest = line_open ++ 10 ∷ [];
-    cut = ap (λ xs. xs ++ 10 ∷ []) t.cut ∙ append_assoc (ended t.texts) line_open (10 ∷ []);
-    run = part;
-  }
-  by (inr part) = record {
+  -- the open line among them, once its newline came
+  line_run : (n : ℕ) (first last : File) (said : List ℕ) → HasSaidPart n first last (t.texts ++ line_open ∷ []) said → RunsWholePart n first last (taken ++ 10 ∷ []) said
+  line_run n first last said has = record {
     texts = t.texts ++ line_open ∷ [];
     rest = [];
     cut = ap (λ xs. xs ++ 10 ∷ []) t.cut ∙ sym (ended-push t.texts line_open) ∙ sym (append-nil (ended (t.texts ++ line_open ∷ [])));
-    run = part;
+    said_part = has;
   }
-stops_line (Damaged file block) tells base heard heard' taken line_open m count after t stop same =
-    (among tells base heard heard' taken (10 ∷ []) line_open m count t (λ told. absurd (stop told)), stop)
-stops_line AtEnd tells base heard heard' taken line_open m count after t stop same = absurd stop
-stops_line SourceFault tells base heard heard' taken line_open m count after t stop same = absurd stop
+
+  heard_some : (more : List ℕ) → ComesTo tells base heard (λ first last. RunsPrefix first last (taken ++ more))
+  heard_some more = comes_as tells base heard (λ first last. HasSaid first last t.texts) (λ first last. RunsPrefix first last (taken ++ more)) (some_run more) (heard_run tells base heard t.texts m count t.run)
+
+  -- there is no memory for the next byte
+  pub among : (more : List ℕ) → Stops NoMemory tells base heard (taken ++ more) count
+  among more = comes_as tells base heard (λ first last. RunsPrefix first last (taken ++ more)) (RunsSomeWhole (taken ++ more)) (λ first last said p. inl p) (heard_some more)
+
+  -- a newline behind a text that stops the run
+  pub stops_line : (why : Ended) (heard' : Seen) (after : ℕ) → StopsText why tells line_open m count heard heard' → after ≡ count → Stops why tells base heard' (taken ++ 10 ∷ []) after
+  stops_line BadLine heard' after stop same = record {
+    texts = t.texts;
+    bad = line_open;
+    more = [];
+    cut = ap (λ xs. xs ++ 10 ∷ []) t.cut;
+    no_newline = t.no_newline;
+    no_line = stop.0;
+    counted = t.run.counted ∙ sym same;
+    run = comes_same tells base heard heard' (λ first last. HasSaid first last t.texts) (heard_run tells base heard t.texts m count t.run) stop.1;
+  }
+  stops_line NoMemory heard' after stop same = by (stop base t.texts t.no_newline t.run) where
+    by : HasHeard tells base heard' t.texts ⊎ HasHeardPart 0 tells base heard' (t.texts ++ line_open ∷ []) → Stops NoMemory tells base heard' (taken ++ 10 ∷ []) after
+    by (inl all) = comes_as tells base heard' (λ first last. HasSaid first last t.texts) (RunsSomeWhole (taken ++ 10 ∷ [])) (λ first last said has. inl (some_run (10 ∷ []) first last said has)) all
+    by (inr part) = comes_as tells base heard' (λ first last. HasSaidPart 0 first last (t.texts ++ line_open ∷ [])) (RunsSomeWhole (taken ++ 10 ∷ [])) (λ first last said has. inr (line_run 0 first last said has)) part
+  stops_line HostFault heard' after stop same = by (stop base t.texts t.no_newline t.run) where
+    by : HasBroken tells base heard' t.texts ⊎ ((n : ℕ) × HasHeardPart n tells base heard' (t.texts ++ line_open ∷ [])) → StopsByHost tells base heard' (taken ++ 10 ∷ [])
+    by (inl broken) = inr (breaks_as tells base heard' (λ first last. HasSaid first last t.texts) (λ first last. RunsPrefix first last (taken ++ 10 ∷ [])) (some_run (10 ∷ [])) broken)
+    by (inr part) = inl (comes_as tells base heard' (λ first last. HasSaidPart part.0 first last (t.texts ++ line_open ∷ [])) (λ first last said. (n : ℕ) × RunsWholePart n first last (taken ++ 10 ∷ []) said)
+        (λ first last said has. (part.0, line_run part.0 first last said has)) part.1)
+  stops_line (Damaged file block) heard' after stop same =
+      (comes_same tells base heard heard' (λ first last. RunsPrefix first last (taken ++ 10 ∷ [])) (heard_some (10 ∷ [])) (λ told. absurd (stop told)), stop)
+  stops_line AtEnd heard' after stop same = absurd stop
+  stops_line SourceFault heard' after stop same = absurd stop
 
 -- further bytes behind what stops the run
+prefix_more : (taken more : List ℕ) (first last : File) (said : List ℕ) → RunsPrefix first last taken said → RunsPrefix first last (taken ++ more) said
+prefix_more taken more first last said s = record { texts = s.texts; rest = s.rest ++ more; cut = ap (λ xs. xs ++ more) s.cut ∙ append_assoc (ended s.texts) s.rest more; said_all = s.said_all }
+
+part_more : (n : ℕ) (taken more : List ℕ) (first last : File) (said : List ℕ) → RunsWholePart n first last taken said → RunsWholePart n first last (taken ++ more) said
+part_more n taken more first last said s = record { texts = s.texts; rest = s.rest ++ more; cut = ap (λ xs. xs ++ more) s.cut ∙ append_assoc (ended s.texts) s.rest more; said_part = s.said_part }
+
+some_more : (taken more : List ℕ) (first last : File) (said : List ℕ) → RunsSomeWhole taken first last said → RunsSomeWhole (taken ++ more) first last said
+some_more taken more first last said (inl s) = inl (prefix_more taken more first last said s)
+some_more taken more first last said (inr s) = inr (part_more 0 taken more first last said s)
+
+by_host_more : (tells : Bool) (base heard : Seen) (taken more : List ℕ) → StopsByHost tells base heard taken → StopsByHost tells base heard (taken ++ more)
+by_host_more tells base heard taken more (inl s) =
+    inl (comes_as tells base heard (λ first last said. (n : ℕ) × RunsWholePart n first last taken said) (λ first last said. (n : ℕ) × RunsWholePart n first last (taken ++ more) said)
+    (λ first last said p. (p.0, part_more p.0 taken more first last said p.1)) s)
+by_host_more tells base heard taken more (inr s) = inr (breaks_as tells base heard (λ first last. RunsPrefix first last taken) (λ first last. RunsPrefix first last (taken ++ more)) (prefix_more taken more) s)
+
 pub stops_more : (why : Ended) (tells : Bool) (base heard : Seen) (taken more : List ℕ) (count : ℕ) → Stops why tells base heard taken count → Stops why tells base heard (taken ++ more) count
 stops_more BadLine tells base heard taken more count s = record {
   texts = s.texts;
@@ -126,27 +136,10 @@ stops_more BadLine tells base heard taken more count s = record {
   counted = s.counted;
   run = s.run;
 }
-stops_more NoMemory tells base heard taken more count s = record {
-  texts = s.texts;
-  rest = s.rest ++ more;
-  cut = ap (λ xs. xs ++ more) s.cut ∙ append_assoc (ended s.texts) s.rest more;
-  run = s.run;
-}
-stops_more HostFault tells base heard taken more count s = record {
-  texts = s.texts;
-  rest = s.rest ++ more;
-  cut = ap (λ xs. xs ++ more) s.cut ∙ append_assoc (ended s.texts) s.rest more;
-  run = s.run;
-}
-stops_more (Damaged file block) tells base heard taken more count s = (
-  record {
-    texts = s.0.texts;
-    rest = s.0.rest ++ more;
-    cut = ap (λ xs. xs ++ more) s.0.cut ∙ append_assoc (ended s.0.texts) s.0.rest more;
-    run = s.0.run;
-  },
-  s.1,
-)
+stops_more NoMemory tells base heard taken more count s = comes_as tells base heard (RunsSomeWhole taken) (RunsSomeWhole (taken ++ more)) (some_more taken more) s
+stops_more HostFault tells base heard taken more count s = by_host_more tells base heard taken more s
+stops_more (Damaged file block) tells base heard taken more count s =
+    (comes_as tells base heard (λ first last. RunsPrefix first last taken) (λ first last. RunsPrefix first last (taken ++ more)) (prefix_more taken more) s.0, s.1)
 stops_more AtEnd tells base heard taken more count s = absurd s
 stops_more SourceFault tells base heard taken more count s = absurd s
 
@@ -162,7 +155,7 @@ ends_line_by tells base heard heard' taken line_open after_open m m' count after
 pub stops_line_by : (why : Ended) (tells : Bool) (base heard heard' : Seen) (taken line_open : List ℕ) (m : Position) (count after byte : ℕ) → HasTaken tells base heard taken m line_open count
     → StopsText why tells line_open m count heard heard' → after ≡ count → byte ≡ 10 → Stops why tells base heard' (taken ++ byte ∷ []) after
 stops_line_by why tells base heard heard' taken line_open m count after byte t stop same newline =
-    subst (λ b. Stops why tells base heard' (taken ++ b ∷ []) after) (sym newline) (stops_line why tells base heard heard' taken line_open m count after t stop same)
+    subst (λ b. Stops why tells base heard' (taken ++ b ∷ []) after) (sym newline) (stops_line tells base heard taken line_open m count t why heard' after stop same)
 
 -- the bytes behind the one that stops the run
 pub stops_within : (why : Ended) (tells : Bool) (base heard : Seen) (taken bytes : List ℕ) (i byte count : ℕ) → i < length bytes → byte ≡ get_or bytes i 0

@@ -22,6 +22,7 @@ use Rattle.forest_model.specs.declared.line.Said.{Said}
 use Rattle.forest_model.specs.declared.line.Told.{Told}
 use Rattle.forest_model.specs.declared.line.Verb.{Verb}
 use Rattle.forest_model.specs.declared.state.State.{State}
+use Rattle.play_run.specs.Seen.{Seen, seen}
 
 -- an open file: what it has in memory, its host's disk, and the blocks that its view shows
 pub record Opened : Type 1 where
@@ -31,6 +32,13 @@ pub record Opened : Type 1 where
 
 abbrev pub opened : {H V F : Type 0} {h : Host.Ghosts H V F} {v : View.Ghosts V} {f : Fresh.Ghosts F} → Parts H V F h v f → Opened
 opened {H} {V} {F} {h} {v} {f} p = record { held = held p; disk = h.disk p.host; blocks = v.content p.view }
+
+-- its disk, and what is seen of that
+abbrev pub disk_of : {H V F : Type 0} {h : Host.Ghosts H V F} {v : View.Ghosts V} {f : Fresh.Ghosts F} → Parts H V F h v f → Disk
+disk_of {H} {V} {F} {h} {v} {f} p = h.disk p.host
+
+abbrev pub seen_of : {H V F : Type 0} {h : Host.Ghosts H V F} {v : View.Ghosts V} {f : Fresh.Ghosts F} → Parts H V F h v f → Seen
+seen_of {H} {V} {F} {h} {v} {f} p = seen (h.disk p.host)
 
 -- with the store of each of the sixteen lanes
 pub record Position : Type 1 where

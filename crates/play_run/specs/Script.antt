@@ -1,5 +1,5 @@
 -- A script's bytes as lines, what is said for them, and how far a run has come.
-use Rattle.std.specs.Prelude.{◌≡◌, ◌≢◌, ℕ, ◌+◌, ◌<◌, ◌≤◌, ◌⊎◌, false, IsTrue, List, [], ◌∷◌, ◌++◌, length, codes}
+use Rattle.std.specs.Prelude.{◌≡◌, ◌≢◌, ℕ, ◌+◌, ◌<◌, ◌≤◌, ◌⊎◌, false, IsTrue, List, [], ◌∷◌, ◌++◌, length, take, codes}
 use Rattle.std.specs.List.{AllByRecursion}
 use Rattle.std.specs.Fmt.{decimal}
 use Rattle.forest_model.specs.Blocks.{File}
@@ -63,6 +63,16 @@ pub record HasSaid (first last : File) (texts : List (List ℕ)) (said : List �
   pub run : Run start first lines told after last
   pub is : said ≡ replies told
 
+-- The same, where of the last reply only the first n bytes were said.
+pub record HasSaidPart (n : ℕ) (first last : File) (texts : List (List ℕ)) (said : List ℕ) : Type 0 where
+  pub lines : List Line
+  pub earlier : List Told
+  pub t : Told
+  pub taken : AreTaken lines texts
+  pub after : Session
+  pub run : Run start first lines (earlier ++ t ∷ []) after last
+  pub is : said ≡ replies earlier ++ take n (reply_line t)
+
 -- the last line of an input, which may lack its newline; none if nothing stands there
 abbrev pub last_line : List ℕ → List (List ℕ)
 last_line [] = []
@@ -90,6 +100,18 @@ pub record RunsPrefix (first last : File) (taken said : List ℕ) : Type 0 where
   pub rest : List ℕ
   pub cut : taken ≡ ended texts ++ rest
   pub said_all : HasSaid first last texts said
+
+-- the first lines of the bytes taken; the last of them may lack its newline where it stands at their end
+abbrev pub FirstLines : List ℕ → List (List ℕ) → Type 0
+FirstLines taken texts =
+    ((rest : List ℕ) × (taken ≡ ended texts ++ rest))
+    ⊎ ((before : List (List ℕ)) × (rest : List ℕ) × (taken ≡ ended before ++ rest) × IsText rest × (texts ≡ before ++ last_line rest))
+
+-- The first lines were run, and of the last one's reply only n bytes were said.
+pub record RunsPart (n : ℕ) (first last : File) (taken said : List ℕ) : Type 0 where
+  pub texts : List (List ℕ)
+  pub cut : FirstLines taken texts
+  pub said_part : HasSaidPart n first last texts said
 
 -- a whole line that is bad stands next
 abbrev pub IsBadLine : List ℕ → Type 0

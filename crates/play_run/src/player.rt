@@ -4,9 +4,9 @@ ghost use Rattle.script_text.specs.Replies.{CanBeSaid};
 ghost use Rattle.play_run.specs.Script.{IsText, IsBad, reply_line};
 ghost use Rattle.forest_model.specs.Blocks.{File};
 ghost use Rattle.forest_model.specs.State.{new_state, usual_limits};
-ghost use Rattle.play_run.specs.Seen.{Seen, seen};
-ghost use Rattle.play_run.specs.Playing.{IsSomewhere, StandsFor, opened, position};
-ghost use Rattle.play_run.specs.Progress.{HasRun, HasTaken, Stops, StopsText, IsStop, IsSound, FaultsAfter, RunsText, Feeds, EndsBy};
+ghost use Rattle.play_run.specs.Seen.{Seen, OthersStay};
+ghost use Rattle.play_run.specs.Playing.{IsSomewhere, StandsFor, disk_of, opened, position, seen_of};
+ghost use Rattle.play_run.specs.Progress.{HasRun, HasTaken, Stops, StopsText, IsStop, IsSound, FaultsAfter, RunsText, Feeds, EndsBy, Spares, faults_of};
 
 use crate::session::Session;
 use block_host::{Failed, Host, Source};
@@ -53,14 +53,16 @@ fn told_for<H: Host>(alloc: Global, session: &mut Session<H>, text: &[u8]) -> Re
     ensures runs { IfOk result (RunsText H.tells text.now
         (position session.old.file.parts session.old.lanes)
         (position session.new.file.parts session.new.lanes)
-        (seen (H.disk session.old.file.parts.host)) (seen (H.disk session.new.file.parts.host))) }
+        (seen_of session.old.file.parts) (seen_of session.new.file.parts)) }
     ensures spelled { IfOk result (λ t. CanBeSaid t.said) }
-    ensures bad { result ≡ Err Ended.BadLine → IsBad text.now × (IsTrue H.tells → seen (H.disk session.new.file.parts.host) ≡ seen (H.disk session.old.file.parts.host)) }
+    ensures bad { result ≡ Err Ended.BadLine → IsBad text.now × (IsTrue H.tells → seen_of session.new.file.parts ≡ seen_of session.old.file.parts) }
     ensures stop { IfErr result (IsStop H.tells) }
-    ensures silent { IsTrue H.tells → (H.disk session.new.file.parts.host).said ≡ (H.disk session.old.file.parts.host).said }
+    ensures silent { IsTrue H.tells → (disk_of session.new.file.parts).said ≡ (disk_of session.old.file.parts).said }
+    ensures spares { IsTrue H.tells → Spares 1 (disk_of session.old.file.parts) (disk_of session.new.file.parts) }
+    ensures settled { IfErr result (λ why. why ≢ Ended.HostFault → IsTrue H.tells → seen_of session.new.file.parts ≡ seen_of session.old.file.parts) }
     ensures untroubled { OnOk result ((H.faults session.new.file.parts.host ≡ H.faults session.old.file.parts.host) × (H.View.faults session.new.file.parts.view ≡ H.View.faults session.old.file.parts.view)) }
-    ensures faults { IfErr result (λ why. FaultsAfter why (record { host = H.faults session.old.file.parts.host; view = H.View.faults session.old.file.parts.view })
-        (record { host = H.faults session.new.file.parts.host; view = H.View.faults session.new.file.parts.view })) }
+    ensures faults { IfErr result (λ why. FaultsAfter why (faults_of session.old.file.parts)
+        (faults_of session.new.file.parts)) }
 {
     let line = match line_of(alloc, text, false) {
         Ok(Some(line)) => line,
@@ -131,16 +133,17 @@ impl<H: Host> Player<H> {
         requires somewhere { IsSomewhere H.tells (position self.old.session.file.parts self.old.session.lanes) }
         requires small { self.old.count < 2 ^ 27 }
         ensures run { OnOk result ((base : Seen) (texts : List (List ℕ)) → IsText self.old.open_line.items
-            → HasRun H.tells base (seen (H.disk self.old.session.file.parts.host)) texts (position self.old.session.file.parts self.old.session.lanes) self.old.count
-            → HasRun H.tells base (seen (H.disk self.new.session.file.parts.host)) (texts ++ self.old.open_line.items ∷ []) (position self.new.session.file.parts self.new.session.lanes) self.new.count) }
+            → HasRun H.tells base (seen_of self.old.session.file.parts) texts (position self.old.session.file.parts self.old.session.lanes) self.old.count
+            → HasRun H.tells base (seen_of self.new.session.file.parts) (texts ++ self.old.open_line.items ∷ []) (position self.new.session.file.parts self.new.session.lanes) self.new.count) }
         ensures open_line { OnOk result (self.new.open_line.items ≡ []) }
         ensures count { OnOk result (self.new.count ≡ self.old.count + 1) }
         ensures somewhere { OnOk result (IsSomewhere H.tells (position self.new.session.file.parts self.new.session.lanes)) }
         ensures same_count { OnErr result (self.new.count ≡ self.old.count) }
-        ensures stops { IfErr result (λ why. StopsText why H.tells self.old.open_line.items (position self.old.session.file.parts self.old.session.lanes) self.old.count (seen (H.disk self.old.session.file.parts.host)) (seen (H.disk self.new.session.file.parts.host))) }
+        ensures stops { IfErr result (λ why. StopsText why H.tells self.old.open_line.items (position self.old.session.file.parts self.old.session.lanes) self.old.count (seen_of self.old.session.file.parts) (seen_of self.new.session.file.parts)) }
         ensures stop { IfErr result (IsStop H.tells) }
         ensures untroubled { OnOk result ((H.faults self.new.session.file.parts.host ≡ H.faults self.old.session.file.parts.host) × (H.View.faults self.new.session.file.parts.view ≡ H.View.faults self.old.session.file.parts.view)) }
-        ensures faults { IfErr result (λ why. FaultsAfter why (record { host = H.faults self.old.session.file.parts.host; view = H.View.faults self.old.session.file.parts.view }) (record { host = H.faults self.new.session.file.parts.host; view = H.View.faults self.new.session.file.parts.view })) }
+        ensures aside { IsTrue H.tells → OthersStay (disk_of self.old.session.file.parts) (disk_of self.new.session.file.parts) }
+        ensures faults { IfErr result (λ why. FaultsAfter why (faults_of self.old.session.file.parts) (faults_of self.new.session.file.parts)) }
     {
         let told = match told_for(self.alloc, &mut self.session, self.open_line.as_slice()) {
             Ok(told) => told,
@@ -165,16 +168,17 @@ impl<H: Host> Player<H> {
         requires somewhere { IsSomewhere H.tells (position self.old.session.file.parts self.old.session.lanes) }
         requires small { self.old.count < 2 ^ 27 }
         ensures taken { OnOk result ((base : Seen) (taken : List ℕ)
-            → HasTaken H.tells base (seen (H.disk self.old.session.file.parts.host)) taken (position self.old.session.file.parts self.old.session.lanes) self.old.open_line.items self.old.count
-            → HasTaken H.tells base (seen (H.disk self.new.session.file.parts.host)) (taken ++ byte ∷ []) (position self.new.session.file.parts self.new.session.lanes) self.new.open_line.items self.new.count) }
+            → HasTaken H.tells base (seen_of self.old.session.file.parts) taken (position self.old.session.file.parts self.old.session.lanes) self.old.open_line.items self.old.count
+            → HasTaken H.tells base (seen_of self.new.session.file.parts) (taken ++ byte ∷ []) (position self.new.session.file.parts self.new.session.lanes) self.new.open_line.items self.new.count) }
         ensures count { self.new.count ≤ self.old.count + 1 }
         ensures somewhere { OnOk result (IsSomewhere H.tells (position self.new.session.file.parts self.new.session.lanes)) }
         ensures stops { IfErr result (λ why. (base : Seen) (taken : List ℕ)
-            → HasTaken H.tells base (seen (H.disk self.old.session.file.parts.host)) taken (position self.old.session.file.parts self.old.session.lanes) self.old.open_line.items self.old.count
-            → Stops why H.tells base (seen (H.disk self.new.session.file.parts.host)) (taken ++ byte ∷ []) self.new.count) }
+            → HasTaken H.tells base (seen_of self.old.session.file.parts) taken (position self.old.session.file.parts self.old.session.lanes) self.old.open_line.items self.old.count
+            → Stops why H.tells base (seen_of self.new.session.file.parts) (taken ++ byte ∷ []) self.new.count) }
         ensures stop { IfErr result (IsStop H.tells) }
         ensures untroubled { OnOk result ((H.faults self.new.session.file.parts.host ≡ H.faults self.old.session.file.parts.host) × (H.View.faults self.new.session.file.parts.view ≡ H.View.faults self.old.session.file.parts.view)) }
-        ensures faults { IfErr result (λ why. FaultsAfter why (record { host = H.faults self.old.session.file.parts.host; view = H.View.faults self.old.session.file.parts.view }) (record { host = H.faults self.new.session.file.parts.host; view = H.View.faults self.new.session.file.parts.view })) }
+        ensures aside { IsTrue H.tells → OthersStay (disk_of self.old.session.file.parts) (disk_of self.new.session.file.parts) }
+        ensures faults { IfErr result (λ why. FaultsAfter why (faults_of self.old.session.file.parts) (faults_of self.new.session.file.parts)) }
     {
         if byte == b'\n' {
             return match self.answer() {
@@ -193,16 +197,17 @@ impl<H: Host> Player<H> {
         requires somewhere { IsSomewhere H.tells (position self.old.session.file.parts self.old.session.lanes) }
         requires small { self.old.count + length bytes.now < 2 ^ 27 }
         ensures taken { OnOk result ((base : Seen) (taken : List ℕ)
-            → HasTaken H.tells base (seen (H.disk self.old.session.file.parts.host)) taken (position self.old.session.file.parts self.old.session.lanes) self.old.open_line.items self.old.count
-            → HasTaken H.tells base (seen (H.disk self.new.session.file.parts.host)) (taken ++ bytes.now) (position self.new.session.file.parts self.new.session.lanes) self.new.open_line.items self.new.count) }
+            → HasTaken H.tells base (seen_of self.old.session.file.parts) taken (position self.old.session.file.parts self.old.session.lanes) self.old.open_line.items self.old.count
+            → HasTaken H.tells base (seen_of self.new.session.file.parts) (taken ++ bytes.now) (position self.new.session.file.parts self.new.session.lanes) self.new.open_line.items self.new.count) }
         ensures count { self.new.count ≤ self.old.count + length bytes.now }
         ensures somewhere { OnOk result (IsSomewhere H.tells (position self.new.session.file.parts self.new.session.lanes)) }
         ensures stops { IfErr result (λ why. (base : Seen) (taken : List ℕ)
-            → HasTaken H.tells base (seen (H.disk self.old.session.file.parts.host)) taken (position self.old.session.file.parts self.old.session.lanes) self.old.open_line.items self.old.count
-            → Stops why H.tells base (seen (H.disk self.new.session.file.parts.host)) (taken ++ bytes.now) self.new.count) }
+            → HasTaken H.tells base (seen_of self.old.session.file.parts) taken (position self.old.session.file.parts self.old.session.lanes) self.old.open_line.items self.old.count
+            → Stops why H.tells base (seen_of self.new.session.file.parts) (taken ++ bytes.now) self.new.count) }
         ensures stop { IfErr result (IsStop H.tells) }
         ensures untroubled { OnOk result ((H.faults self.new.session.file.parts.host ≡ H.faults self.old.session.file.parts.host) × (H.View.faults self.new.session.file.parts.view ≡ H.View.faults self.old.session.file.parts.view)) }
-        ensures faults { IfErr result (λ why. FaultsAfter why (record { host = H.faults self.old.session.file.parts.host; view = H.View.faults self.old.session.file.parts.view }) (record { host = H.faults self.new.session.file.parts.host; view = H.View.faults self.new.session.file.parts.view })) }
+        ensures aside { IsTrue H.tells → OthersStay (disk_of self.old.session.file.parts) (disk_of self.new.session.file.parts) }
+        ensures faults { IfErr result (λ why. FaultsAfter why (faults_of self.old.session.file.parts) (faults_of self.new.session.file.parts)) }
     {
         for byte in bytes {
             if let Err(why) = self.take_byte(*byte) {
@@ -217,12 +222,13 @@ impl<H: Host> Player<H> {
         requires somewhere { IsSomewhere H.tells (position self.old.session.file.parts self.old.session.lanes) }
         requires small { self.old.count < 2 ^ 27 }
         ensures ends { (base : Seen) (taken : List ℕ) → length taken ≤ SCRIPT_LIMIT
-            → HasTaken H.tells base (seen (H.disk self.old.session.file.parts.host)) taken (position self.old.session.file.parts self.old.session.lanes) self.old.open_line.items self.old.count
-            → EndsBy result H.tells base (seen (H.disk self.new.session.file.parts.host)) taken [] self.new.count }
+            → HasTaken H.tells base (seen_of self.old.session.file.parts) taken (position self.old.session.file.parts self.old.session.lanes) self.old.open_line.items self.old.count
+            → EndsBy result H.tells base (seen_of self.new.session.file.parts) taken [] self.new.count }
         ensures read { result ≢ Ended.SourceFault }
         ensures sound { IsSound H.tells result }
         ensures count { self.new.count ≤ self.old.count + 1 }
-        ensures faults { FaultsAfter result (record { host = H.faults self.old.session.file.parts.host; view = H.View.faults self.old.session.file.parts.view }) (record { host = H.faults self.new.session.file.parts.host; view = H.View.faults self.new.session.file.parts.view }) }
+        ensures aside { IsTrue H.tells → OthersStay (disk_of self.old.session.file.parts) (disk_of self.new.session.file.parts) }
+        ensures faults { FaultsAfter result (faults_of self.old.session.file.parts) (faults_of self.new.session.file.parts) }
     {
         if self.open_line.as_slice().is_empty() {
             return Ended::AtEnd;
@@ -249,17 +255,18 @@ impl<H: Host> Player<H> {
         ensures few { self.new.count ≤ SCRIPT_LIMIT + 1 }
         ensures somewhere { OnOk result (IsSomewhere H.tells (position self.new.session.file.parts self.new.session.lanes)) }
         ensures taken { IfOk result (λ n. IsTrue S.tells → (base : Seen) (taken script : List ℕ) → script ≡ taken ++ S.rest source.old
-            → HasTaken H.tells base (seen (H.disk self.old.session.file.parts.host)) taken (position self.old.session.file.parts self.old.session.lanes) self.old.open_line.items self.old.count
-            → Feeds H.tells base (seen (H.disk self.new.session.file.parts.host)) taken script (S.rest source.new) (position self.new.session.file.parts self.new.session.lanes) self.new.open_line.items self.new.count n) }
+            → HasTaken H.tells base (seen_of self.old.session.file.parts) taken (position self.old.session.file.parts self.old.session.lanes) self.old.open_line.items self.old.count
+            → Feeds H.tells base (seen_of self.new.session.file.parts) taken script (S.rest source.new) (position self.new.session.file.parts self.new.session.lanes) self.new.open_line.items self.new.count n) }
         ensures ends { IfErr result (λ why. IsTrue S.tells → (base : Seen) (taken script : List ℕ) → script ≡ taken ++ S.rest source.old
             → length taken + left ≡ SCRIPT_LIMIT + 1
-            → HasTaken H.tells base (seen (H.disk self.old.session.file.parts.host)) taken (position self.old.session.file.parts self.old.session.lanes) self.old.open_line.items self.old.count
-            → EndsBy why H.tells base (seen (H.disk self.new.session.file.parts.host)) script (S.rest source.new) self.new.count) }
+            → HasTaken H.tells base (seen_of self.old.session.file.parts) taken (position self.old.session.file.parts self.old.session.lanes) self.old.open_line.items self.old.count
+            → EndsBy why H.tells base (seen_of self.new.session.file.parts) script (S.rest source.new) self.new.count) }
         ensures sound { IfErr result (IsSound H.tells) }
         ensures source { result ≡ Err Ended.SourceFault → risen (S.faults source.old) ≤ S.faults source.new }
         ensures counts { S.faults source.old ≤ S.faults source.new }
         ensures untroubled { OnOk result ((H.faults self.new.session.file.parts.host ≡ H.faults self.old.session.file.parts.host) × (H.View.faults self.new.session.file.parts.view ≡ H.View.faults self.old.session.file.parts.view)) }
-        ensures faults { IfErr result (λ why. FaultsAfter why (record { host = H.faults self.old.session.file.parts.host; view = H.View.faults self.old.session.file.parts.view }) (record { host = H.faults self.new.session.file.parts.host; view = H.View.faults self.new.session.file.parts.view })) }
+        ensures aside { IsTrue H.tells → OthersStay (disk_of self.old.session.file.parts) (disk_of self.new.session.file.parts) }
+        ensures faults { IfErr result (λ why. FaultsAfter why (faults_of self.old.session.file.parts) (faults_of self.new.session.file.parts)) }
     {
         let n = match source.read(room) {
             Ok(n) => n,
@@ -280,11 +287,12 @@ impl<H: Host> Player<H> {
         requires somewhere { IsSomewhere H.tells (position self.old.session.file.parts self.old.session.lanes) }
         requires none { self.old.count ≡ 0 }
         ensures ends { IsTrue S.tells → (base : Seen)
-            → HasTaken H.tells base (seen (H.disk self.old.session.file.parts.host)) [] (position self.old.session.file.parts self.old.session.lanes) self.old.open_line.items self.old.count
-            → EndsBy result H.tells base (seen (H.disk self.new.session.file.parts.host)) (S.rest source.old) (S.rest source.new) self.new.count }
+            → HasTaken H.tells base (seen_of self.old.session.file.parts) [] (position self.old.session.file.parts self.old.session.lanes) self.old.open_line.items self.old.count
+            → EndsBy result H.tells base (seen_of self.new.session.file.parts) (S.rest source.old) (S.rest source.new) self.new.count }
         ensures sound { IsSound H.tells result }
         ensures source { result ≡ Ended.SourceFault → risen (S.faults source.old) ≤ S.faults source.new }
-        ensures faults { FaultsAfter result (record { host = H.faults self.old.session.file.parts.host; view = H.View.faults self.old.session.file.parts.view }) (record { host = H.faults self.new.session.file.parts.host; view = H.View.faults self.new.session.file.parts.view }) }
+        ensures aside { IsTrue H.tells → OthersStay (disk_of self.old.session.file.parts) (disk_of self.new.session.file.parts) }
+        ensures faults { FaultsAfter result (faults_of self.old.session.file.parts) (faults_of self.new.session.file.parts) }
         ensures few { self.new.count ≤ SCRIPT_LIMIT + 1 }
     {
         let mut room = [0; ROOM];

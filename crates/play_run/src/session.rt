@@ -1,12 +1,11 @@
 ghost use Rattle.std.specs.Prelude.{◌≡◌, ◌≢◌, ◌↔◌, false, IsTrue, IsSome, IfOk, IfErr, IfSome, IfNone, OnOk, Err};
 ghost use Rattle.forest_model.specs.Blocks.{File};
-ghost use Rattle.play_run.specs.Seen.{seen};
 ghost use Rattle.forest_model.specs.State.{new_state, usual_limits};
 ghost use Rattle.script_text.specs.Grammar.{IsRight};
 ghost use Rattle.script_text.specs.Replies.{CanBeSaid};
 ghost use Rattle.play_run.specs.Built.{is_built};
-ghost use Rattle.play_run.specs.Playing.{IsAt, IsSomewhere, StandsFor, LeadsEach, opened, position};
-ghost use Rattle.play_run.specs.Progress.{FaultsAfter, IsStop};
+ghost use Rattle.play_run.specs.Playing.{IsAt, IsSomewhere, StandsFor, LeadsEach, disk_of, opened, position, seen_of};
+ghost use Rattle.play_run.specs.Progress.{FaultsAfter, IsStop, Spares, faults_of};
 ghost use Rattle.play_run.specs.Script.{start};
 
 use crate::player::Ended;
@@ -50,13 +49,15 @@ impl<H: Host> Session<H> {
             (position self.old.file.parts self.old.lanes)
             (position self.new.file.parts self.new.lanes) line.now)) }
         ensures spelled { IfOk result (λ told. IfSome told (λ t. CanBeSaid t.said)) }
-        ensures none { IfOk result (λ told. IfNone told (IsTrue H.tells → seen (H.disk self.new.file.parts.host) ≡ seen (H.disk self.old.file.parts.host))) }
+        ensures none { IfOk result (λ told. IfNone told (IsTrue H.tells → seen_of self.new.file.parts ≡ seen_of self.old.file.parts)) }
         ensures stop { IfErr result (IsStop H.tells) }
         ensures line { result ≢ Err Ended.BadLine }
-        ensures silent { IsTrue H.tells → (H.disk self.new.file.parts.host).said ≡ (H.disk self.old.file.parts.host).said }
+        ensures silent { IsTrue H.tells → (disk_of self.new.file.parts).said ≡ (disk_of self.old.file.parts).said }
+        ensures spares { IsTrue H.tells → Spares 1 (disk_of self.old.file.parts) (disk_of self.new.file.parts) }
+        ensures settled { IfErr result (λ why. why ≢ Ended.HostFault → IsTrue H.tells → seen_of self.new.file.parts ≡ seen_of self.old.file.parts) }
         ensures untroubled { OnOk result ((H.faults self.new.file.parts.host ≡ H.faults self.old.file.parts.host) × (H.View.faults self.new.file.parts.view ≡ H.View.faults self.old.file.parts.view)) }
-        ensures faults { IfErr result (λ why. FaultsAfter why (record { host = H.faults self.old.file.parts.host; view = H.View.faults self.old.file.parts.view })
-            (record { host = H.faults self.new.file.parts.host; view = H.View.faults self.new.file.parts.view })) }
+        ensures faults { IfErr result (λ why. FaultsAfter why (faults_of self.old.file.parts)
+            (faults_of self.new.file.parts)) }
     {
         if !is_built(&line.verb) {
             return Ok(None);

@@ -111,21 +111,32 @@ fn a_source_and_a_host_that_fail(rt: HostRuntime) -> Result<(), Fail> {
     Ok(())
 }
 
-#[test]
-fn a_damaged_block_ends_the_run(rt: HostRuntime) -> Result<(), Fail> {
-    let alloc = rt.alloc();
+// A run that meets a damaged block, where saying fails at the call of this number; 0 where none does.
+fn run_to_damage(alloc: Global, fails_at: u64) -> Result<Played<Listener>, AllocError> {
     let mut host = Listener::new(alloc)?;
     host.spoiled = 1;
+    host.fails_at = fails_at;
     let words = words(alloc)?;
     let script = b"0 set a 1\n0 get a\n0 commit\n0 get a\n0 get a\n";
     let mut source = MemorySource::new(script.to_vec(alloc)?);
-    let played = play(alloc, words.as_slice(), &mut source, host);
+    Ok(play(alloc, words.as_slice(), &mut source, host))
+}
+
+#[test]
+fn a_damaged_block_ends_the_run(rt: HostRuntime) -> Result<(), Fail> {
+    let played = run_to_damage(rt.alloc(), 0)?;
     assert_eq!(rt; played.status, 6);
     assert_eq!(rt;
         played.host.said.as_slice(),
         b"0 1 ok 1\n0 1 found 1 1\n0 2 commit 1\ndamaged 1 1\n".as_slice()
     );
     assert_eq!(rt; Host::faults(&played.host), 0);
+    let played = run_to_damage(rt.alloc(), 4)?;
+    assert_eq!(rt; played.status, 4);
+    assert_eq!(rt;
+        played.host.said.as_slice(),
+        b"0 1 ok 1\n0 1 found 1 1\n0 2 commit 1\n".as_slice()
+    );
     Ok(())
 }
 

@@ -8,8 +8,8 @@ ghost use Rattle.play_run.specs.declared.player.Ended.TheVariants as Ended;
 ghost use Rattle.script_text.specs.Grammar.{IsRightVerb};
 ghost use Rattle.script_text.specs.Replies.{CanBeSaid};
 ghost use Rattle.play_run.specs.Built.{is_built_verb};
-ghost use Rattle.play_run.specs.Playing.{Answers, StandsFor, opened};
-ghost use Rattle.play_run.specs.Progress.{FaultsAfter, IsStop};
+ghost use Rattle.play_run.specs.Playing.{Answers, StandsFor, opened, disk_of};
+ghost use Rattle.play_run.specs.Progress.{FaultsAfter, IsStop, Spares, faults_of};
 ghost use Rattle.play_run.specs.Refused.{said_or_ended};
 
 use crate::player::Ended;
@@ -51,10 +51,11 @@ pub(crate) fn run<H: Host>(
     ensures spelled { IfOk result CanBeSaid }
     ensures stop { IfErr result (IsStop H.tells) }
     ensures line { result ≢ Err Ended.BadLine }
-    ensures silent { IsTrue H.tells → (H.disk file.new.parts.host).said ≡ (H.disk file.old.parts.host).said }
+    ensures spares { IsTrue H.tells → Spares file.old.parts.revision (disk_of file.old.parts) (disk_of file.new.parts) }
+    ensures settled { IfErr result (λ why. why ≢ Ended.HostFault → IsTrue H.tells → (disk_of file.new.parts).files ≡ (disk_of file.old.parts).files) }
     ensures untroubled { OnOk result ((H.faults file.new.parts.host ≡ H.faults file.old.parts.host) × (H.View.faults file.new.parts.view ≡ H.View.faults file.old.parts.view)) }
-    ensures faults { IfErr result (λ why. FaultsAfter why (record { host = H.faults file.old.parts.host; view = H.View.faults file.old.parts.view })
-        (record { host = H.faults file.new.parts.host; view = H.View.faults file.new.parts.view })) }
+    ensures faults { IfErr result (λ why. FaultsAfter why (faults_of file.old.parts)
+        (faults_of file.new.parts)) }
 {
     match verb {
         Verb::UseStore { name, read_only } => use_store(file, at, name, *read_only),
@@ -85,10 +86,11 @@ fn use_store<H: Host>(
     ensures spelled { IfOk result CanBeSaid }
     ensures stop { IfErr result (IsStop H.tells) }
     ensures line { result ≢ Err Ended.BadLine }
-    ensures silent { IsTrue H.tells → (H.disk file.new.parts.host).said ≡ (H.disk file.old.parts.host).said }
+    ensures spares { IsTrue H.tells → Spares file.old.parts.revision (disk_of file.old.parts) (disk_of file.new.parts) }
+    ensures settled { IfErr result (λ why. why ≢ Ended.HostFault → IsTrue H.tells → (disk_of file.new.parts).files ≡ (disk_of file.old.parts).files) }
     ensures untroubled { OnOk result ((H.faults file.new.parts.host ≡ H.faults file.old.parts.host) × (H.View.faults file.new.parts.view ≡ H.View.faults file.old.parts.view)) }
-    ensures faults { IfErr result (λ why. FaultsAfter why (record { host = H.faults file.old.parts.host; view = H.View.faults file.old.parts.view })
-        (record { host = H.faults file.new.parts.host; view = H.View.faults file.new.parts.view })) }
+    ensures faults { IfErr result (λ why. FaultsAfter why (faults_of file.old.parts)
+        (faults_of file.new.parts)) }
 {
     match file.store_open(name.as_slice(), read_only) {
         Ok(opened) => {
@@ -107,10 +109,11 @@ fn remove<H: Host>(file: &mut FileState<H>, at: &StoreRef, name: &Bytes) -> Resu
     ensures spelled { IfOk result CanBeSaid }
     ensures stop { IfErr result (IsStop H.tells) }
     ensures line { result ≢ Err Ended.BadLine }
-    ensures silent { IsTrue H.tells → (H.disk file.new.parts.host).said ≡ (H.disk file.old.parts.host).said }
+    ensures spares { IsTrue H.tells → Spares file.old.parts.revision (disk_of file.old.parts) (disk_of file.new.parts) }
+    ensures settled { IfErr result (λ why. why ≢ Ended.HostFault → IsTrue H.tells → (disk_of file.new.parts).files ≡ (disk_of file.old.parts).files) }
     ensures untroubled { OnOk result ((H.faults file.new.parts.host ≡ H.faults file.old.parts.host) × (H.View.faults file.new.parts.view ≡ H.View.faults file.old.parts.view)) }
-    ensures faults { IfErr result (λ why. FaultsAfter why (record { host = H.faults file.old.parts.host; view = H.View.faults file.old.parts.view })
-        (record { host = H.faults file.new.parts.host; view = H.View.faults file.new.parts.view })) }
+    ensures faults { IfErr result (λ why. FaultsAfter why (faults_of file.old.parts)
+        (faults_of file.new.parts)) }
 {
     match file.store_remove(at, name.as_slice()) {
         Ok(id) => Ok(Said::Removed { id }),
@@ -132,10 +135,11 @@ fn set<H: Host>(
     ensures spelled { IfOk result CanBeSaid }
     ensures stop { IfErr result (IsStop H.tells) }
     ensures line { result ≢ Err Ended.BadLine }
-    ensures silent { IsTrue H.tells → (H.disk file.new.parts.host).said ≡ (H.disk file.old.parts.host).said }
+    ensures spares { IsTrue H.tells → Spares file.old.parts.revision (disk_of file.old.parts) (disk_of file.new.parts) }
+    ensures settled { IfErr result (λ why. why ≢ Ended.HostFault → IsTrue H.tells → (disk_of file.new.parts).files ≡ (disk_of file.old.parts).files) }
     ensures untroubled { OnOk result ((H.faults file.new.parts.host ≡ H.faults file.old.parts.host) × (H.View.faults file.new.parts.view ≡ H.View.faults file.old.parts.view)) }
-    ensures faults { IfErr result (λ why. FaultsAfter why (record { host = H.faults file.old.parts.host; view = H.View.faults file.old.parts.view })
-        (record { host = H.faults file.new.parts.host; view = H.View.faults file.new.parts.view })) }
+    ensures faults { IfErr result (λ why. FaultsAfter why (faults_of file.old.parts)
+        (faults_of file.new.parts)) }
 {
     match file.set(at, key.as_slice(), meta.as_slice(), body.as_slice()) {
         Ok(seq) => Ok(Said::Done { seq }),
@@ -151,10 +155,11 @@ fn del<H: Host>(file: &mut FileState<H>, at: &StoreRef, key: &Bytes) -> Result<S
     ensures spelled { IfOk result CanBeSaid }
     ensures stop { IfErr result (IsStop H.tells) }
     ensures line { result ≢ Err Ended.BadLine }
-    ensures silent { IsTrue H.tells → (H.disk file.new.parts.host).said ≡ (H.disk file.old.parts.host).said }
+    ensures spares { IsTrue H.tells → Spares file.old.parts.revision (disk_of file.old.parts) (disk_of file.new.parts) }
+    ensures settled { IfErr result (λ why. why ≢ Ended.HostFault → IsTrue H.tells → (disk_of file.new.parts).files ≡ (disk_of file.old.parts).files) }
     ensures untroubled { OnOk result ((H.faults file.new.parts.host ≡ H.faults file.old.parts.host) × (H.View.faults file.new.parts.view ≡ H.View.faults file.old.parts.view)) }
-    ensures faults { IfErr result (λ why. FaultsAfter why (record { host = H.faults file.old.parts.host; view = H.View.faults file.old.parts.view })
-        (record { host = H.faults file.new.parts.host; view = H.View.faults file.new.parts.view })) }
+    ensures faults { IfErr result (λ why. FaultsAfter why (faults_of file.old.parts)
+        (faults_of file.new.parts)) }
 {
     match file.delete(at, key.as_slice()) {
         Ok(seq) => Ok(Said::Gone { seq }),
@@ -172,10 +177,11 @@ fn batch<H: Host>(file: &mut FileState<H>, at: &StoreRef, items: &Items) -> Resu
     ensures spelled { IfOk result CanBeSaid }
     ensures stop { IfErr result (IsStop H.tells) }
     ensures line { result ≢ Err Ended.BadLine }
-    ensures silent { IsTrue H.tells → (H.disk file.new.parts.host).said ≡ (H.disk file.old.parts.host).said }
+    ensures spares { IsTrue H.tells → Spares file.old.parts.revision (disk_of file.old.parts) (disk_of file.new.parts) }
+    ensures settled { IfErr result (λ why. why ≢ Ended.HostFault → IsTrue H.tells → (disk_of file.new.parts).files ≡ (disk_of file.old.parts).files) }
     ensures untroubled { OnOk result ((H.faults file.new.parts.host ≡ H.faults file.old.parts.host) × (H.View.faults file.new.parts.view ≡ H.View.faults file.old.parts.view)) }
-    ensures faults { IfErr result (λ why. FaultsAfter why (record { host = H.faults file.old.parts.host; view = H.View.faults file.old.parts.view })
-        (record { host = H.faults file.new.parts.host; view = H.View.faults file.new.parts.view })) }
+    ensures faults { IfErr result (λ why. FaultsAfter why (faults_of file.old.parts)
+        (faults_of file.new.parts)) }
 {
     match file.batch(at, items.as_slice()) {
         Ok(seq) => Ok(Said::Done { seq }),
@@ -191,10 +197,11 @@ fn get<H: Host>(file: &mut FileState<H>, at: &StoreRef, key: &Bytes) -> Result<S
     ensures spelled { IfOk result CanBeSaid }
     ensures stop { IfErr result (IsStop H.tells) }
     ensures line { result ≢ Err Ended.BadLine }
-    ensures silent { IsTrue H.tells → (H.disk file.new.parts.host).said ≡ (H.disk file.old.parts.host).said }
+    ensures spares { IsTrue H.tells → Spares file.old.parts.revision (disk_of file.old.parts) (disk_of file.new.parts) }
+    ensures settled { IfErr result (λ why. why ≢ Ended.HostFault → IsTrue H.tells → (disk_of file.new.parts).files ≡ (disk_of file.old.parts).files) }
     ensures untroubled { OnOk result ((H.faults file.new.parts.host ≡ H.faults file.old.parts.host) × (H.View.faults file.new.parts.view ≡ H.View.faults file.old.parts.view)) }
-    ensures faults { IfErr result (λ why. FaultsAfter why (record { host = H.faults file.old.parts.host; view = H.View.faults file.old.parts.view })
-        (record { host = H.faults file.new.parts.host; view = H.View.faults file.new.parts.view })) }
+    ensures faults { IfErr result (λ why. FaultsAfter why (faults_of file.old.parts)
+        (faults_of file.new.parts)) }
 {
     match file.get(at, key.as_slice()) {
         Ok(found) => Ok(Said::Got { found }),
@@ -210,10 +217,11 @@ fn by_seq<H: Host>(file: &mut FileState<H>, at: &StoreRef, seq: u64) -> Result<S
     ensures spelled { IfOk result CanBeSaid }
     ensures stop { IfErr result (IsStop H.tells) }
     ensures line { result ≢ Err Ended.BadLine }
-    ensures silent { IsTrue H.tells → (H.disk file.new.parts.host).said ≡ (H.disk file.old.parts.host).said }
+    ensures spares { IsTrue H.tells → Spares file.old.parts.revision (disk_of file.old.parts) (disk_of file.new.parts) }
+    ensures settled { IfErr result (λ why. why ≢ Ended.HostFault → IsTrue H.tells → (disk_of file.new.parts).files ≡ (disk_of file.old.parts).files) }
     ensures untroubled { OnOk result ((H.faults file.new.parts.host ≡ H.faults file.old.parts.host) × (H.View.faults file.new.parts.view ≡ H.View.faults file.old.parts.view)) }
-    ensures faults { IfErr result (λ why. FaultsAfter why (record { host = H.faults file.old.parts.host; view = H.View.faults file.old.parts.view })
-        (record { host = H.faults file.new.parts.host; view = H.View.faults file.new.parts.view })) }
+    ensures faults { IfErr result (λ why. FaultsAfter why (faults_of file.old.parts)
+        (faults_of file.new.parts)) }
 {
     match file.by_seq(at, seq) {
         Ok(found) => Ok(Said::At { found }),
@@ -229,10 +237,11 @@ fn info<H: Host>(file: &mut FileState<H>, at: &StoreRef) -> Result<Said, Ended>
     ensures spelled { IfOk result CanBeSaid }
     ensures stop { IfErr result (IsStop H.tells) }
     ensures line { result ≢ Err Ended.BadLine }
-    ensures silent { IsTrue H.tells → (H.disk file.new.parts.host).said ≡ (H.disk file.old.parts.host).said }
+    ensures spares { IsTrue H.tells → Spares file.old.parts.revision (disk_of file.old.parts) (disk_of file.new.parts) }
+    ensures settled { IfErr result (λ why. why ≢ Ended.HostFault → IsTrue H.tells → (disk_of file.new.parts).files ≡ (disk_of file.old.parts).files) }
     ensures untroubled { OnOk result ((H.faults file.new.parts.host ≡ H.faults file.old.parts.host) × (H.View.faults file.new.parts.view ≡ H.View.faults file.old.parts.view)) }
-    ensures faults { IfErr result (λ why. FaultsAfter why (record { host = H.faults file.old.parts.host; view = H.View.faults file.old.parts.view })
-        (record { host = H.faults file.new.parts.host; view = H.View.faults file.new.parts.view })) }
+    ensures faults { IfErr result (λ why. FaultsAfter why (faults_of file.old.parts)
+        (faults_of file.new.parts)) }
 {
     match file.info(at) {
         Ok(info) => Ok(Said::InfoIs { info }),
@@ -248,10 +257,11 @@ fn commit_now<H: Host>(file: &mut FileState<H>, at: &StoreRef) -> Result<Said, E
     ensures spelled { IfOk result CanBeSaid }
     ensures stop { IfErr result (IsStop H.tells) }
     ensures line { result ≢ Err Ended.BadLine }
-    ensures silent { IsTrue H.tells → (H.disk file.new.parts.host).said ≡ (H.disk file.old.parts.host).said }
+    ensures spares { IsTrue H.tells → Spares file.old.parts.revision (disk_of file.old.parts) (disk_of file.new.parts) }
+    ensures settled { IfErr result (λ why. why ≢ Ended.HostFault → IsTrue H.tells → (disk_of file.new.parts).files ≡ (disk_of file.old.parts).files) }
     ensures untroubled { OnOk result ((H.faults file.new.parts.host ≡ H.faults file.old.parts.host) × (H.View.faults file.new.parts.view ≡ H.View.faults file.old.parts.view)) }
-    ensures faults { IfErr result (λ why. FaultsAfter why (record { host = H.faults file.old.parts.host; view = H.View.faults file.old.parts.view })
-        (record { host = H.faults file.new.parts.host; view = H.View.faults file.new.parts.view })) }
+    ensures faults { IfErr result (λ why. FaultsAfter why (faults_of file.old.parts)
+        (faults_of file.new.parts)) }
 {
     match commit(file, at) {
         Ok(number) => Ok(Said::Committed { number }),

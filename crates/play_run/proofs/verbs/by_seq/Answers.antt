@@ -1,10 +1,11 @@
-use Rattle.std.proofs.Common.{refl, ap, ◌∙◌}
+use Rattle.std.proofs.Common.{refl, ap, ◌∙◌, ◌≡◌, IsTrue}
 use Rattle.file_parts.specs.Held.{held}
 use Rattle.file_parts.specs.Moment.{moment}
 use Rattle.forest_model.specs.declared.call.Call.TheVariants as calls
 use Rattle.forest_model.specs.declared.line.Said.TheVariants as says
 use Rattle.forest_model.specs.declared.line.Verb.TheVariants as verbs
-use Rattle.play_run.proofs.Answering.{read_found, read_refused, text_leaves}
+use Rattle.play_run.proofs.Answering.{read_found, read_refused, text_leaves, all_settled}
+use Rattle.play_run.proofs.Sparing.{spares_same}
 use Rattle.play_run.proofs.verbs.by_seq.Goals as goal
 
 pub returns-in-Ok-clause-answers : goal.returns-in-Ok-clause-answers
@@ -30,4 +31,17 @@ returns-in-Err g c =
     c.in-Err.why c.refused.result c.refused.ensures.exact
     (λ text. record { held = c.in-Err.ensures.left ∙ text_leaves (g.H.Host.faults before.host) (held before) c.in-Err.why text; files = ap (λ h. (g.H.Host.disk h).files) c.by_seq.ensures.host; shown = c.by_seq.ensures.content; host = ap g.H.Host.faults c.by_seq.ensures.host }) (ap g.H.Host.faults c.by_seq.ensures.host)
     c.in-Err.ensures.reads c.requires.somewhere c.in-Err.ensures.untroubled in
-    record { answers = r.answers; spelled = r.spelled; stop = r.stop; line = r.line; silent = λ _. ap (λ h. (g.H.Host.disk h).said) c.by_seq.ensures.host; untroubled = r.untroubled; faults = r.faults }
+    record {
+      answers = r.answers;
+      spelled = r.spelled;
+      stop = r.stop;
+      line = r.line;
+      spares = λ _. spares_same before.revision (g.H.Host.disk before.host) (g.H.Host.disk after.host) (ap (λ h. (g.H.Host.disk h).files) c.by_seq.ensures.host) (ap (λ h. (g.H.Host.disk h).said) c.by_seq.ensures.host);
+      settled = all_settled (IsTrue g.H.Host.tells → (g.H.Host.disk after.host).files ≡ (g.H.Host.disk before.host).files) c.refused.result (λ _. ap (λ h. (g.H.Host.disk h).files) c.by_seq.ensures.host);
+      untroubled = r.untroubled;
+      faults = r.faults;
+    }
+
+pub returns-in-Ok-clause-spares : goal.returns-in-Ok-clause-spares
+returns-in-Ok-clause-spares g c = λ _.
+    spares_same c.args.file.now.parts.revision (g.H.Host.disk c.args.file.now.parts.host) (g.H.Host.disk c.by_seq.new.self.parts.host) (ap (λ h. (g.H.Host.disk h).files) c.by_seq.ensures.host) (ap (λ h. (g.H.Host.disk h).said) c.by_seq.ensures.host)

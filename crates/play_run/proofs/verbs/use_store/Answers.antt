@@ -4,7 +4,7 @@ use Rattle.forest_model.specs.declared.call.Call.TheVariants as calls
 use Rattle.forest_model.specs.declared.call.Reply.TheVariants as replies
 use Rattle.forest_model.specs.declared.line.Said.TheVariants as says
 use Rattle.forest_model.specs.declared.line.Verb.TheVariants as verbs
-use Rattle.play_run.proofs.Answering.{update_done, update_refused}
+use Rattle.play_run.proofs.Answering.{update_done, update_refused, update_settled}
 use Rattle.play_run.proofs.verbs.use_store.Goals as goal
 
 pub returns-in-Ok-clause-answers : goal.returns-in-Ok-clause-answers
@@ -26,4 +26,13 @@ returns-in-Err g c =
     update_refused g.H.Host.tells replies.Store (verbs.UseStore c.args.name.now c.args.read_only) _ c.args.at.now old new c.in-Err.why c.refused.result c.refused.ensures.exact
     (λ i. Some (calls.StoreOpen (sym c.as_slice.ensures i) c.args.read_only))
     c.in-Err.ensures.updates c.requires.somewhere c.in-Err.ensures.keeps.untroubled c.in-Err.ensures.keeps.view_count c.in-Err.ensures.keeps.counts in
-    record { answers = r.answers; spelled = r.spelled; stop = r.stop; line = r.line; silent = λ told. (c.in-Err.ensures.keeps.aside told).said; untroubled = r.untroubled; faults = r.faults }
+    record {
+      answers = r.answers;
+      spelled = r.spelled;
+      stop = r.stop;
+      line = r.line;
+      spares = λ told. record { aside = c.in-Err.ensures.keeps.aside told; front = c.in-Err.ensures.keeps.front told };
+      settled = update_settled g.H.Host.tells old new c.in-Err.why c.refused.result c.refused.ensures.exact c.in-Err.ensures.keeps.refused;
+      untroubled = r.untroubled;
+      faults = r.faults;
+    }

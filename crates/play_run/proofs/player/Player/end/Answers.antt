@@ -16,6 +16,6 @@ returns-in-Ok-clause-ends g c = λ base taken short has.
 
 pub returns-in-Err-clause-ends : goal.returns-in-Err-clause-ends
 returns-in-Err-clause-ends g c = λ base taken short has.
-    ends_stops _ _ base _ _ taken c.args.self.now.open_line.items (position c.args.self.now.session.file.parts c.args.self.now.session.lanes) c.args.self.now.count _ has
+    ends_stops _ base _ taken c.args.self.now.open_line.items (position c.args.self.now.session.file.parts c.args.self.now.session.lanes) c.args.self.now.count has
     (subst (λ (xs : List ℕ). xs ≢ []) c.as_slice.ensures.value (nonempty c.as_slice.result.now (sym c.is_empty.ensures ∙ c.if-is_empty.false)))
-    c.in-Err.ensures.stops c.in-Err.ensures.same_count
+    _ _ _ c.in-Err.ensures.stops c.in-Err.ensures.same_count

@@ -1,6 +1,6 @@
-use Rattle.play_run.specs.Playing.{IsSomewhere, position}
+use Rattle.play_run.specs.Playing.{IsSomewhere, disk_of, position}
 use Rattle.std.proofs.Common.{◌≡◌, ◌+◌, ◌<◌, ◌≤◌, ℕ, List, [], ◌++◌, length, IsTrue}
-use Rattle.play_run.specs.Seen.{Seen, seen}
+use Rattle.play_run.specs.Seen.{Seen, OthersStay, seen}
 use Rattle.play_run.specs.Progress.{HasTaken}
 use Rattle.play_run.specs.declared.player.TheConstants.{SCRIPT_LIMIT}
 use Rattle.play_run.proofs.player.Player.run.Given as goal
@@ -15,6 +15,7 @@ invariant-script g l = record {
   host : g.H.Host.faults l.self.session.file.parts.host ≡ g.H.Host.faults l.initial.self.session.file.parts.host;
   view : g.H.View.View.faults l.self.session.file.parts.view ≡ g.H.View.View.faults l.initial.self.session.file.parts.view;
   counts : g.S.Source.faults l.initial.source ≤ g.S.Source.faults l.source;
+  aside : IsTrue g.H.Host.tells → OthersStay (disk_of l.initial.self.session.file.parts) (disk_of l.self.session.file.parts);
   taken : IsTrue g.S.Source.tells → (base : Seen)
       → HasTaken g.H.Host.tells base (seen (g.H.Host.disk l.initial.self.session.file.parts.host)) [] (position l.initial.self.session.file.parts l.initial.self.session.lanes) l.initial.self.open_line.items l.initial.self.count
       → (taken : List ℕ) × (g.S.Source.rest l.initial.source ≡ taken ++ g.S.Source.rest l.source) × (length taken + l.left ≡ SCRIPT_LIMIT + 1)

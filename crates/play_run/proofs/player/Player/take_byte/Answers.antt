@@ -1,5 +1,5 @@
 use Rattle.play_run.specs.Playing.{position}
-use Rattle.std.proofs.Common.{refl, [], ◌∷◌}
+use Rattle.std.proofs.Common.{[], ◌∷◌}
 use Rattle.play_run.proofs.Taking.{ends_line_by, stops_line_by, among}
 use Rattle.play_run.proofs.player.Player.take_byte.Goals as goal
 
@@ -15,4 +15,4 @@ returns-in-Err-clause-stops g c = λ base taken has.
 
 pub returns-then-is_err-clause-stops : goal.returns-then-is_err-clause-stops
 returns-then-is_err-clause-stops g c = λ base taken has.
-    among _ base _ _ taken (c.args.byte ∷ []) c.args.self.now.open_line.items (position c.args.self.now.session.file.parts c.args.self.now.session.lanes) c.args.self.now.count has (λ _. refl)
+    among _ base _ taken c.args.self.now.open_line.items (position c.args.self.now.session.file.parts c.args.self.now.session.lanes) c.args.self.now.count has (c.args.byte ∷ [])
