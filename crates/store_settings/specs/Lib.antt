@@ -1,0 +1,4 @@
+pub mod Numbers
+pub mod Profile
+pub mod Reading
+pub mod Settings
