@@ -6,7 +6,7 @@ use Rattle.doc_stream.specs.OpenBlock.{OpenBlock}
 use Rattle.doc_stream.specs.Scanned.{IsScanned}
 use Rattle.doc_stream.specs.Writing.{AreOthers}
 use Rattle.forest_model.specs.declared.stored.Rec.{Rec}
-use Rattle.file_commit.specs.Committing.{listed, IsOpenBlock}
+use Rattle.file_core.specs.Updates.{listed, IsOpenBlock}
 
 -- what the crate of records promises
 abbrev pub PadScans : Type 0
