@@ -206,7 +206,8 @@ fn said(alloc: Global, row: &str) -> Result<String, Fail> {
     if let Some(found) = settings_of(alloc, text.as_slice())? {
         write!(
             line,
-            "{} {} {} {}", found.wal, found.max_blocks, found.daemon, found.compact_percent
+            "{} {} {} {}",
+            found.wal, found.max_blocks, found.daemon, found.compact_percent
         )?;
     }
     Ok(line)
