@@ -97,6 +97,7 @@ module _ (told : Bool) (at : StoreRef) (old new : Moment) (s : State) (f : File)
   refuses : (why : Refusal) (result : Result ℕ Refusal) → step_of s f (calls.Commit at) ≡ (Refused why, s) → result ≡ Err why → Stays old new → CommitsAs told s f at old new result
   refuses why result step is same = subst (λ (r : Result ℕ Refusal). CommitsAs told s f at old new r) (sym is) (record {
     done = tt;
+    gone = tt;
     puts = tt;
     refused = λ other h. ap Err (same_refusal why other (sym (ap (λ (o : Outcome). o.0) step) ∙ h));
     reason = inl (ap (λ (o : Outcome). o.0) step, kept_stands same, kept_file same);
@@ -113,6 +114,7 @@ module _ (told : Bool) (at : StoreRef) (old new : Moment) (s : State) (f : File)
         kept_file same,
       ),
     );
+    gone = ap (λ (h : Held). h.wal.gone) same.held;
     puts = λ _ news. absurd (let both : true ≡ false = sym none_new ∙ news in cc);
     refused = λ other h. absurd (no_refusal _ other (sym (ap (λ (o : Outcome). o.0) step) ∙ h));
     reason = tt;
@@ -132,12 +134,14 @@ module _ (told : Bool) (at : StoreRef) (old new : Moment) (s : State) (f : File)
           commit_file rules means pads blocks pad_scans pass_scans told at old new s f stands was news step given.1,
         ),
       );
+      gone = ap (λ (h : Held). h.wal.gone) given.1.held;
       puts = λ t _. subst (λ (o : Outcome). PutsHeader (header_of o.1 f) old new) (sym step) (puts_header rules means pads blocks pad_scans pass_scans told at old new s f stands was news step given.1 t);
       refused = λ other h. absurd (no_refusal _ other (sym (ap (λ (o : Outcome). o.0) step) ∙ h));
       reason = tt;
     }
     gives (Err why) news step given = record {
       done = tt;
+      gone = tt;
       puts = tt;
       refused = λ other h. absurd (no_refusal _ other (sym (ap (λ (o : Outcome). o.0) step) ∙ h));
       reason = inr (given.0, inl given.1);

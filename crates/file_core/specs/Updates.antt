@@ -94,10 +94,12 @@ pub record PutsHeader (h : Header) (old new : Moment) : Type 0 where
   pub files : new.disk.files old.held.revision ≡ old.disk.files old.held.revision ++ listed block ++ header ∷ []
   pub is_sealed : IsSealed old.held.revision (length (old.disk.files old.held.revision) + length (listed block)) 4 (header_bytes h) header
 
--- A commit is the same, but memory is never refused. Where something is new, it puts the header of the state that it leaves.
+-- A commit is the same, but memory is never refused. Where something is new, it puts the header of the state that it leaves;
+-- no store goes.
 pub record CommitsAs (told : Bool) (s : State) (f : File) (at : StoreRef) (old new : Moment) (result : Result ℕ Refusal) : Type 0 where
   pub done : IfOk result (λ number. ((step_of s f (calls.Commit at)).0 ≡ Committed number) × StandsAt told new (step_of s f (calls.Commit at)).1
       × ((grown : File) × FileAfter s f (Some (calls.Commit at)) (step_of s f (calls.Commit at)).1 grown × IsFile told new.held new.file grown))
+  pub gone : IfOk result (λ number. new.held.wal.gone ≡ old.held.wal.gone)
   pub puts : IfOk result (λ number. IsTrue told → nothing_new s ≡ false → PutsHeader (header_of (step_of s f (calls.Commit at)).1 f) old new)
   pub refused : (why : Refusal) → (step_of s f (calls.Commit at)).0 ≡ Refused why → result ≡ Err why
   pub reason : IfErr result (λ why. (((step_of s f (calls.Commit at)).0 ≡ Refused why) × StandsAt told new s × IsFile told new.held new.file f)

@@ -161,8 +161,8 @@ module _ {T : Type 0} (told : Bool) (reply : T → Reply) (verb : Verb) (call : 
 -- a commit is an update
 pub committed_update : (told : Bool) (s : State) (f : File) (at : StoreRef) (old new : Moment) (result : Result ℕ Refusal) → CommitsAs told s f at old new result
     → UpdatesAs told Committed s f (calls.Commit at) old new result
-committed_update told s f at old new (Ok number) c = record { done = c.done; refused = c.refused; reason = tt }
-committed_update told s f at old new (Err why) c = record { done = tt; refused = c.refused; reason = by c.reason } where
+committed_update told s f at old new (Ok number) c = record { done = c.done; gone = c.gone; refused = c.refused; reason = tt }
+committed_update told s f at old new (Err why) c = record { done = tt; gone = tt; refused = c.refused; reason = by c.reason } where
   by : ((step_of s f (calls.Commit at)).0 ≡ Refused why) × StandsAt told new s × IsFile told new.held new.file f ⊎ ((why ≡ refusal.DiskFault) × Troubled old new)
       → (((step_of s f (calls.Commit at)).0 ≡ Refused why) × StandsAt told new s × IsFile told new.held new.file f)
       ⊎ ((why ≡ refusal.NoMemory) × StandsAt told new s × IsFile told new.held new.file f)
