@@ -1,0 +1,4 @@
+mod Appending
+mod Cutting
+mod Decimals
+mod Naming
